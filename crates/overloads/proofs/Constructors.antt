@@ -1,0 +1,53 @@
+-- Constructor sets: the size of the one member, and that several are told apart by counting. Assumes nothing.
+use mathlib.Core.Path.{_≡_, refl, sym, ap, _∙_}
+use mathlib.Core.Bool.{Bool, true, false}
+use mathlib.Core.List.{List, [], _∷_}
+use Prim.Native.Nat.{ℕ, suc, _+_, _-_, _*_, _%_, _^_, _≤_, _<_}
+use native.Mathlib.Omega.{arith}
+use lib.Count.{trailingZeros}
+use lib.Dec.{eqb, ltb, lit≤}
+use lib.ListN.{length}
+use borrow.Author.Tests.{lt-ltb, ltb-false, eqb-true}
+use Rattle.overloads.specs.Mask.{either, isOne, bits}
+use Rattle.overloads.specs.Constructor.{setSize, sizeOf, sizeOfOne, outsideSizes}
+use Rattle.overloads.specs.declared.constructor_set.SizeAnswer.the-variants.{Size, Refused}
+use Rattle.overloads.specs.declared.refusal.Refusal.the-variants.{SeveralConstructors}
+use Rattle.overloads.proofs.Bits.{bits-first, bits-within}
+
+module _ (m : ℕ) (p : 0 < m) (h : m < 2 ^ 13) where
+  abbrev low : List ℕ
+  low = bits 13 (m - (1 * 2 ^ trailingZeros 16 m) % 2 ^ 16)
+
+  first : bits 13 m ≡ trailingZeros 16 m ∷ low
+  first = bits-first 16 13 m (lit≤ tt) p h
+
+  one : (b : Bool) → isOne (bits 16 m) ≡ b → isOne (trailingZeros 16 m ∷ low) ≡ b
+  one b e = ap isOne (sym (bits-within 13 16 m (lit≤ tt) h ∙ first)) ∙ e
+
+  size-of-list : setSize m ≡ sizeOfOne (trailingZeros 16 m ∷ low)
+  unfolding setSize
+  size-of-list = simp (lt-ltb _ _ h) (ap sizeOfOne first)
+
+  pub size-one : isOne (bits 16 m) ≡ true → setSize m ≡ Size (sizeOf (trailingZeros 16 m))
+  size-one e = size-of-list ∙ alone (trailingZeros 16 m) low (one true e)
+    where
+      alone : (k : ℕ) (ks : List ℕ) → isOne (k ∷ ks) ≡ true → sizeOfOne (k ∷ ks) ≡ Size (sizeOf k)
+      alone k [] e = refl
+      alone k (l ∷ ks) e = let z : suc (suc (length ks)) ≡ 1 = eqb-true _ _ e in absurd (omega arith)
+
+  pub size-several : isOne (bits 16 m) ≡ false → setSize m ≡ Refused SeveralConstructors
+  size-several e = size-of-list ∙ several (trailingZeros 16 m) low (one false e)
+    where
+      several : (k : ℕ) (ks : List ℕ) → isOne (k ∷ ks) ≡ false → sizeOfOne (k ∷ ks) ≡ Refused SeveralConstructors
+      several k [] e = let z : _≡_ {A = Bool} true false = e in let n : _≡_ {A = ℕ} 0 1 = cc in absurd (omega arith)
+      several k (l ∷ ks) e = refl
+
+-- a number of components, columns or rows that is not outside
+pub inside : (n : ℕ) → outsideSizes n ≡ false → (2 ≤ n) × (n ≤ 4)
+unfolding outsideSizes
+inside n e = go (ltb n 2) (ltb 4 n) refl refl e
+  where
+    go : (x y : Bool) → ltb n 2 ≡ x → ltb 4 n ≡ y → either x y ≡ false → (2 ≤ n) × (n ≤ 4)
+    go true y f g e = let z : _≡_ {A = ℕ} 0 1 = cc in absurd (omega arith)
+    go false true f g e = let z : _≡_ {A = ℕ} 0 1 = cc in absurd (omega arith)
+    go false false f g e = (ltb-false _ _ f, ltb-false _ _ g)

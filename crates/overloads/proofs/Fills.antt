@@ -1,0 +1,26 @@
+-- An array of blanks that is filled from the front is the list that was put there, padded with blanks. Assumes nothing.
+use mathlib.Core.Path.{_≡_, refl, sym, ap, _∙_}
+use mathlib.Core.List.{List, [], _∷_, _++_}
+use Prim.Native.Nat.{ℕ, zero, suc, _+_, _-_, _≤_}
+use native.Mathlib.Nat.{zero-add, zero-sub, sub-zero, suc-sub-suc}
+use native.Mathlib.Numerals.{add-one}
+use native.Mathlib.Omega.{arith}
+use lib.ListN.{length, drop, set, replicate, length-replicate}
+use lib.Seq.{sets, sets-eq}
+use Rattle.overloads.specs.Mask.{padded}
+
+module _ {A : Type 0} where
+  drop-blanks : (k n : ℕ) (b : A) → drop k (replicate n b) ≡ replicate (n - k) b
+  drop-blanks zero n b = ap (λ (m : ℕ). replicate m b) (sym (sub-zero n))
+  drop-blanks (suc k) zero b = ap (λ (m : ℕ). replicate m b) (sym (zero-sub (suc k)))
+  drop-blanks (suc k) (suc n) b = drop-blanks k n b ∙ ap (λ (m : ℕ). replicate m b) (sym (suc-sub-suc n k))
+
+  pub filled : (n : ℕ) (b : A) (ks : List A) → length ks ≤ n → sets (replicate n b) 0 ks ≡ padded n b ks
+  filled n b ks h =
+      sets-eq ks (replicate n b) 0 (omega (arith, length-replicate n b))
+      ∙ ap (λ (m : ℕ). ks ++ drop m (replicate n b)) (zero-add (length ks))
+      ∙ ap (λ (r : List A). ks ++ r) (drop-blanks (length ks) n b)
+
+  -- one entry further
+  pub fill-next : (out : List A) (i : ℕ) (k : A) (ks : List A) → sets (set out i k) (i + 1) ks ≡ sets out i (k ∷ ks)
+  fill-next out i k ks = ap (λ (j : ℕ). sets (set out i k) j ks) (add-one i)

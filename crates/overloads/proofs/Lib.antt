@@ -1,0 +1,10 @@
+pub mod Table
+pub mod Masks
+pub mod Sifts
+pub mod Meets
+pub mod Bits
+pub mod Scalars
+pub mod Codes
+pub mod Constructors
+pub mod Combinations
+pub mod Fills

@@ -1,0 +1,71 @@
+-- 'A single call': the rule that a call means, chosen from its function's listing by the steps of document 01, or what is wrong.
+use mathlib.Core.Bool.{Bool, true, false}
+use mathlib.Core.List.{List, [], _∷_}
+use Prim.Native.Nat.{ℕ, zero, suc, max}
+use lib.Dec.{ltb}
+use lib.ListN.{length}
+use Rattle.overloads.specs.Mask.{choose, either, consIf}
+use Rattle.overloads.specs.Signature.{Signature, takes, concrete}
+
+-- a rule with its index in the function's full listing
+pub record Entry : Type 0 where
+  pub index : ℕ
+  pub rule : Signature
+
+abbrev pub number : ℕ → List Signature → List Entry
+number i [] = []
+number i (r ∷ rs) = record { index = i; rule = r } ∷ number (suc i) rs
+
+-- the rules that pass a test, with their indices, in order
+abbrev pub keep : (Signature → Bool) → List Entry → List Entry
+keep p [] = []
+keep p (x ∷ xs) = consIf (p (x .rule)) x (keep p xs)
+
+-- both counts, least and most, are the longest rule's
+abbrev pub longest : List Signature → ℕ
+longest [] = 0
+longest (r ∷ rs) = max (length (r .arguments)) (longest rs)
+
+abbrev pub leastCount : List Signature → ℕ
+leastCount rs = longest rs
+
+abbrev pub mostCount : List Signature → ℕ
+mostCount rs = longest rs
+
+-- what is left after each operand in turn, or the operand that emptied the set
+pub data Narrowed : Type 0 where
+  left : List Entry → Narrowed
+  emptied : ℕ → Narrowed
+
+abbrev pub unlessEmpty : ℕ → (List Entry → Narrowed) → List Entry → Narrowed
+unlessEmpty k go [] = emptied k
+unlessEmpty k go (x ∷ xs) = go (x ∷ xs)
+
+unfoldable pub narrow : List ℕ → ℕ → List Entry → Narrowed
+narrow [] k s = left s
+narrow (t ∷ ts) k s = unlessEmpty k (λ (s′ : List Entry). narrow ts (suc k) s′) (keep (takes k t) s)
+
+-- the rule and its index; a wrong count (5); no rule left after an operand (6); none left by the concrete-only step (1)
+pub data Choice : Type 0 where
+  chosen : ℕ → Signature → Choice
+  wrongCount : Choice
+  noneAfter : ℕ → Choice
+  noneConcrete : Choice
+
+abbrev pub first : List Entry → Choice
+first [] = noneConcrete
+first (x ∷ xs) = chosen (x .index) (x .rule)
+
+-- the switch: rules with an abstract argument are dropped
+abbrev pub concreteStep : Bool → List Entry → List Entry
+concreteStep false s = s
+concreteStep true s = keep concrete s
+
+abbrev pub afterOperands : Bool → Narrowed → Choice
+afterOperands switch (emptied k) = noneAfter k
+afterOperands switch (left s) = first (concreteStep switch s)
+
+unfoldable pub resolve : Bool → List Signature → List ℕ → Choice
+resolve switch rules ts =
+    choose (either (ltb (length ts) (leastCount rules)) (ltb (mostCount rules) (length ts))) wrongCount
+    (afterOperands switch (narrow ts 0 (number 0 rules)))
