@@ -24,23 +24,30 @@ module _ (m : ℕ) (p : 0 < m) (h : m < 2 ^ 13) where
   one : (b : Bool) → isOne (bits 16 m) ≡ b → isOne (trailingZeros 16 m ∷ low) ≡ b
   one b e = ap isOne (sym (bits-within 13 16 m (lit≤ tt) h ∙ first)) ∙ e
 
-  size-of-list : setSize m ≡ sizeOfOne (trailingZeros 16 m ∷ low)
+  -- one member, or more behind it
+  pub only-one : isOne (bits 16 m) ≡ true → bits 13 m ≡ trailingZeros 16 m ∷ []
+  only-one e = first ∙ ap (λ (ks : List ℕ). trailingZeros 16 m ∷ ks) (alone low (one true e))
+    where
+      alone : (ks : List ℕ) → isOne (trailingZeros 16 m ∷ ks) ≡ true → ks ≡ []
+      alone [] e = refl
+      alone (l ∷ ks) e = let z : suc (suc (length ks)) ≡ 1 = eqb-true _ _ e in absurd (omega arith)
+
+  pub several : isOne (bits 16 m) ≡ false → (l : ℕ) × (ks : List ℕ) × (bits 13 m ≡ trailingZeros 16 m ∷ l ∷ ks)
+  several e = go low refl (one false e)
+    where
+      go : (ks : List ℕ) → low ≡ ks → isOne (trailingZeros 16 m ∷ ks) ≡ false → (l : ℕ) × (ks : List ℕ) × (bits 13 m ≡ trailingZeros 16 m ∷ l ∷ ks)
+      go [] q e = let z : _≡_ {A = Bool} true false = e in let n : _≡_ {A = ℕ} 0 1 = cc in absurd (omega arith)
+      go (l ∷ ks) q e = (l, ks, first ∙ ap (λ (ks : List ℕ). trailingZeros 16 m ∷ ks) q)
+
+  size-of-list : setSize m ≡ sizeOfOne (bits 13 m)
   unfolding setSize
-  size-of-list = simp (lt-ltb _ _ h) (ap sizeOfOne first)
+  size-of-list = simp (lt-ltb _ _ h)
 
   pub size-one : isOne (bits 16 m) ≡ true → setSize m ≡ Size (sizeOf (trailingZeros 16 m))
-  size-one e = size-of-list ∙ alone (trailingZeros 16 m) low (one true e)
-    where
-      alone : (k : ℕ) (ks : List ℕ) → isOne (k ∷ ks) ≡ true → sizeOfOne (k ∷ ks) ≡ Size (sizeOf k)
-      alone k [] e = refl
-      alone k (l ∷ ks) e = let z : suc (suc (length ks)) ≡ 1 = eqb-true _ _ e in absurd (omega arith)
+  size-one e = size-of-list ∙ ap sizeOfOne (only-one e)
 
   pub size-several : isOne (bits 16 m) ≡ false → setSize m ≡ Refused SeveralConstructors
-  size-several e = size-of-list ∙ several (trailingZeros 16 m) low (one false e)
-    where
-      several : (k : ℕ) (ks : List ℕ) → isOne (k ∷ ks) ≡ false → sizeOfOne (k ∷ ks) ≡ Refused SeveralConstructors
-      several k [] e = let z : _≡_ {A = Bool} true false = e in let n : _≡_ {A = ℕ} 0 1 = cc in absurd (omega arith)
-      several k (l ∷ ks) e = refl
+  size-several e = size-of-list ∙ ap sizeOfOne (several e .2)
 
 -- a number of components, columns or rows that is not outside
 pub inside : (n : ℕ) → outsideSizes n ≡ false → (2 ≤ n) × (n ≤ 4)

@@ -1,5 +1,5 @@
 -- An array of blanks that is filled from the front is the list that was put there, padded with blanks. Assumes nothing.
-use mathlib.Core.Path.{_≡_, refl, sym, ap, _∙_}
+use mathlib.Core.Path.{_≡_, sym, ap, _∙_}
 use mathlib.Core.List.{List, [], _∷_, _++_}
 use Prim.Native.Nat.{ℕ, zero, suc, _+_, _-_, _≤_}
 use native.Mathlib.Nat.{zero-add, zero-sub, sub-zero, suc-sub-suc}
@@ -24,3 +24,10 @@ module _ {A : Type 0} where
   -- one entry further
   pub fill-next : (out : List A) (i : ℕ) (k : A) (ks : List A) → sets (set out i k) (i + 1) ks ≡ sets out i (k ∷ ks)
   fill-next out i k ks = ap (λ (j : ℕ). sets (set out i k) j ks) (add-one i)
+
+  -- the entries that are left to fill in, one entry further
+  pub fill-step : (out : List A) (i : ℕ) {all ks goal : List A} {k : A} → all ≡ k ∷ ks → sets out i all ≡ goal → sets (set out i k) (i + 1) ks ≡ goal
+  fill-step out i {all} {ks} {goal} {k} e left = fill-next out i k ks ∙ ap (sets out i) (sym e) ∙ left
+
+  pub fill-end : (out : List A) (i : ℕ) {all goal : List A} → all ≡ [] → sets out i all ≡ goal → out ≡ goal
+  fill-end out i e left = sym (ap (sets out i) e) ∙ left

@@ -8,3 +8,16 @@ pub mod Codes
 pub mod Constructors
 pub mod Combinations
 pub mod Fills
+pub mod Rules
+pub mod Regulars
+pub mod Puts
+pub mod Records
+pub mod Prefixes
+pub mod Entries
+pub mod Lists
+pub mod Steps
+pub mod Cleans
+pub mod Verdicts
+pub mod TypesAt
+pub mod Conclusions
+pub mod Listings

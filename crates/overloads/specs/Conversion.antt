@@ -11,17 +11,17 @@ use Rattle.overloads.specs.declared.scalar_set.ScalarAnswer.{ScalarAnswe
 use Rattle.overloads.specs.declared.scalar_set.ScalarAnswer.the-variants as answer
 use Rattle.overloads.specs.declared.conversion.Base.{Base}
 use Rattle.overloads.specs.declared.conversion.Base.the-variants as base
-use Rattle.overloads.specs.declared.conversion.Conversion.{Conversion}
-use Rattle.overloads.specs.declared.conversion.Conversion.the-variants as conversion
+use Rattle.overloads.specs.declared.answer.Test.{Test}
+use Rattle.overloads.specs.declared.answer.Test.the-variants as test
 use Rattle.overloads.specs.declared.conversion.Combination.{Combination}
 use Rattle.overloads.specs.declared.conversion.Combination.the-variants as combined
 
 -- whether a scalar converts to another: 7 at 0, then at 1, for an unknown one
-unfoldable pub convertsTo : ℕ → ℕ → Conversion
+unfoldable pub convertsTo : ℕ → ℕ → Test
 convertsTo a b =
     choose (ltb a 12)
-    (choose (ltb b 12) (choose (converts a b) conversion.Yes conversion.No) (conversion.Refused (Unknown 1)))
-    (conversion.Refused (Unknown 0))
+    (choose (ltb b 12) (choose (converts a b) test.Yes test.No) (test.Refused (Unknown 1)))
+    (test.Refused (Unknown 0))
 
 -- no scalar
 abbrev pub none : ℕ

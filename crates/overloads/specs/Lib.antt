@@ -8,4 +8,8 @@ pub mod Scalar
 pub mod TypeCode
 pub mod Constructor
 pub mod Conversion
+pub mod Rule
+pub mod Listing
+pub mod List
+pub mod Regular
 pub mod Paper

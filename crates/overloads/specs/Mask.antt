@@ -28,6 +28,11 @@ abbrev pub filter {ℓ} : {A : Type ℓ} → (A → Bool) → List A → List A
 filter p [] = []
 filter p (x ∷ xs) = consIf (p x) x (filter p xs)
 
+-- each element passes
+abbrev pub every {ℓ} : {A : Type ℓ} → (A → Bool) → List A → Bool
+every p [] = true
+every p (x ∷ xs) = both (p x) (every p xs)
+
 abbrev pub odd : ℕ → Bool
 odd m = eqb (m % 2) 1
 

@@ -6,7 +6,7 @@ use lib.ListN.{length, replicate}
 use Rattle.overloads.specs.Mask.{choose, bits, maskOf, padded}
 use Rattle.overloads.specs.declared.one_bits_iter.BitStep.{BitStep}
 use Rattle.overloads.specs.declared.one_bits_iter.BitStep.the-variants.{Bit, Done}
-use Rattle.overloads.specs.declared.one_bits_iter.CountAnswer.the-variants.{Count, Refused}
+use Rattle.overloads.specs.declared.answer.CountAnswer.the-variants.{Count, Refused}
 use Rattle.overloads.specs.declared.one_bits_iter.Members.{Members}
 use Rattle.overloads.specs.declared.refusal.Refusal.the-variants.{Unknown}
 

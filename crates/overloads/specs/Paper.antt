@@ -6,8 +6,8 @@ use Rattle.overloads.specs.Refusal.{numberOf, placeOf}
 use Rattle.overloads.specs.declared.refusal.Refusal.{Refusal}
 use Rattle.overloads.specs.declared.scalar_set.ScalarAnswer.{ScalarAnswer}
 use Rattle.overloads.specs.declared.scalar_set.ScalarAnswer.the-variants as scalar
-use Rattle.overloads.specs.declared.one_bits_iter.CountAnswer.{CountAnswer}
-use Rattle.overloads.specs.declared.one_bits_iter.CountAnswer.the-variants as count
+use Rattle.overloads.specs.declared.answer.CountAnswer.{CountAnswer}
+use Rattle.overloads.specs.declared.answer.CountAnswer.the-variants as count
 use Rattle.overloads.specs.declared.type_code.CodeAnswer.{CodeAnswer}
 use Rattle.overloads.specs.declared.type_code.CodeAnswer.the-variants as code
 

@@ -1,9 +1,9 @@
 -- 'List': what a rule says, apart from how a record holds it, and which operand it takes at an index.
-use mathlib.Core.Bool.{Bool, true, false, not}
+use mathlib.Core.Bool.{Bool, false, not}
 use mathlib.Core.List.{List, [], _∷_}
 use Prim.Native.Nat.{ℕ, zero, suc}
 use lib.Dec.{eqb}
-use Rattle.overloads.specs.Mask.{both}
+use Rattle.overloads.specs.Mask.{both, every}
 use Rattle.overloads.specs.Domain.{value?, constructorPart, scalarPart, converts, isAbstract}
 
 -- a rule's meaning: the types of its arguments, and its result
@@ -34,8 +34,7 @@ takes i t r = takesAt i t (r .arguments)
 
 -- the concrete-only step's test: no argument is abstract
 abbrev pub allConcrete : List ℕ → Bool
-allConcrete [] = true
-allConcrete (a ∷ az) = both (not (isAbstract a)) (allConcrete az)
+allConcrete az = every (λ a. not (isAbstract a)) az
 
 abbrev pub concrete : Signature → Bool
 concrete r = allConcrete (r .arguments)

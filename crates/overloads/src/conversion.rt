@@ -8,19 +8,13 @@ ghost use Prim.Native.Nat.{_<_, _≤_};
 ghost use lib.ListN.{drop, length};
 ghost use Rattle.overloads.specs.Domain.{converts};
 ghost use Rattle.overloads.specs.Conversion.{convertsTo, combination, combineOf, consensusOf, consensusWith, consensusWithout, agree};
+use crate::answer::Test;
 use crate::refusal::Refusal;
 use crate::scalar_set::Scalar;
 use crate::scalar_set::ScalarAnswer;
 use crate::scalar_set::ScalarSet;
 use crate::type_code::VALUES;
 use crate::type_code::first_unknown;
-
-// Whether one scalar converts to another.
-pub enum Conversion {
-    Yes,
-    No,
-    Refused(Refusal),
-}
 
 // What two scalars combine to.
 pub enum Combination {
@@ -187,19 +181,19 @@ const COMBINED: [u8; 144] = [
 ];
 
 // Whether the first scalar converts to the second. Refused 7 for an unknown scalar, at 0, then at 1.
-pub fn automatically_converts_to(from: Scalar, to: Scalar) -> Conversion
+pub fn automatically_converts_to(from: Scalar, to: Scalar) -> Test
     ensures { λ r. ⌜ r ≡ convertsTo (from .0) (to .0) ⌝ }
 {
     if Scalar::COUNT <= from.0 {
-        return Conversion::Refused(Refusal::Unknown(0));
+        return Test::Refused(Refusal::Unknown(0));
     }
     if Scalar::COUNT <= to.0 {
-        return Conversion::Refused(Refusal::Unknown(1));
+        return Test::Refused(Refusal::Unknown(1));
     }
     if scalar_converts(from.0, to.0) {
-        return Conversion::Yes;
+        return Test::Yes;
     }
-    Conversion::No
+    Test::No
 }
 
 // Whether one known scalar converts to another.

@@ -6,6 +6,7 @@
 ghost use mathlib.Core.Path.{_≡_};
 ghost use Rattle.overloads.specs.Mask.{bits, headOr};
 ghost use Rattle.overloads.specs.OneBits.{stepOf, listed, unlisted};
+use crate::answer::CountAnswer;
 use crate::refusal::Refusal;
 
 // The bits that are still to come.
@@ -21,12 +22,6 @@ pub struct BitNumber(pub u8);
 pub enum BitStep {
     Bit(OneBit, OneBitsIter),
     Done,
-}
-
-// The answer where a count is asked for.
-pub enum CountAnswer {
-    Count(u8),
-    Refused(Refusal),
 }
 
 // The members of a set of at most 16: how many, and beside that their numbers, lowest first; entries not in use hold 255.

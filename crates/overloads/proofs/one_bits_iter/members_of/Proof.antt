@@ -11,7 +11,7 @@ use lib.ListN.{length, length-set}
 use lib.Seq.{sets}
 use Rattle.overloads.specs.Mask.{upTo, bits, padded}
 use Rattle.overloads.specs.OneBits.{listed}
-use Rattle.overloads.specs.declared.one_bits_iter.CountAnswer.the-variants.{Count}
+use Rattle.overloads.specs.declared.answer.CountAnswer.the-variants.{Count}
 use Rattle.overloads.proofs.Masks.{Turn}
 use Rattle.overloads.proofs.Bits.{bits-turn, bits-first, bits-length, bits-none}
 use Rattle.overloads.proofs.Fills.{filled, fill-next}

@@ -1,0 +1,26 @@
+-- `reaches` meets its contract: the constructors are compared, then the scalars are tried.
+-- Assumes nothing.
+use mathlib.Core.Path.{_≡_, sym, _∙_}
+use borrow.Author.Needs.{needs}
+use borrow.Author.Tests.{lt-ltb, le-ltb, eq-eqb, ne-eqb}
+use Rattle.overloads.specs.Signature.{reaches}
+use Rattle.overloads.proofs.rule.reaches.Statement.{statement}
+use Rattle.overloads.proofs.rule.reaches.Tie as tie
+
+returns : tie.Need-returns
+unfolding reaches
+returns c = simp (le-ltb _ _ (c .if1 .taken))
+
+returns-2 : tie.Need-returns-2
+unfolding reaches
+returns-2 c = simp (lt-ltb _ _ (c .before .if1 .left), ne-eqb _ _ (c .if2 .taken))
+
+scalar-converts-requires : tie.Need-scalar-converts-requires
+scalar-converts-requires c κs = search needs
+
+returns-3 : tie.Need-returns-3
+unfolding reaches
+returns-3 c = simp (lt-ltb _ _ (c .before .before .if1 .left), eq-eqb _ _ (c .before .if2 .left)) (c .scalar-converts .ensures)
+
+pub reaches-spec : {M : Type 1} → statement M
+reaches-spec = tie.close (tie.spec returns returns-2 scalar-converts-requires returns-3)

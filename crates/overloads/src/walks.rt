@@ -1,0 +1,123 @@
+// The walks over the members of a tested List, lowest bit first; each member's number is had by counting trailing zeros.
+
+ghost use mathlib.Core.Path.{_≡_};
+ghost use Rattle.overloads.specs.Listing.{acceptedListing};
+ghost use Rattle.overloads.specs.List.{Valid, kept, countOf, preferredOf, allowedOf, listing, entries};
+use crate::answer::CountAnswer;
+use crate::list::Chosen;
+use crate::list::ChosenAnswer;
+use crate::list::List;
+use crate::listing::AllowedArgs;
+use crate::listing::Listing;
+use crate::listing::no_codes;
+use crate::listing::no_rules;
+use crate::listing::no_types;
+use crate::refusal::Refusal;
+use crate::rule::Keep;
+
+// The members that pass a test: one walk for every step.
+pub fn filter(list: List, keep: Keep) -> List
+    requires { ⌜ Valid list ⌝ }
+    ensures { λ r. ⌜ r ≡ kept keep list ⌝ }
+{
+    let mut rest = list.members;
+    let mut left: u64 = 0;
+    while rest != 0 {
+        let n = u64::trailing_zeros(rest) as usize;
+        let bit = 1u64 << n;
+        let rule = list.rules[n];
+        if rule.passes(keep) {
+            left += bit;
+        }
+        rest -= bit;
+    }
+    let rules = list.rules;
+    List {
+        rules: rules,
+        len: list.len,
+        members: left,
+    }
+}
+
+// The longest member's number of arguments.
+pub fn longest(list: List) -> CountAnswer
+    requires { ⌜ Valid list ⌝ }
+    ensures { λ r. ⌜ r ≡ countOf (listing list) ⌝ }
+{
+    let mut rest = list.members;
+    if rest == 0 {
+        return CountAnswer::Refused(Refusal::EmptySet(0));
+    }
+    let mut best: u8 = 0;
+    while rest != 0 {
+        let n = u64::trailing_zeros(rest) as usize;
+        let rule = list.rules[n];
+        if best < rule.count {
+            best = rule.count;
+        }
+        rest -= 1u64 << n;
+    }
+    CountAnswer::Count(best)
+}
+
+// The first member.
+pub fn first(list: List) -> ChosenAnswer
+    requires { ⌜ Valid list ⌝ }
+    ensures { λ r. ⌜ r ≡ preferredOf (entries list) ⌝ }
+{
+    let rest = list.members;
+    if rest == 0 {
+        return ChosenAnswer::Refused(Refusal::EmptySet(0));
+    }
+    let n = u64::trailing_zeros(rest) as usize;
+    let rule = list.rules[n];
+    ChosenAnswer::Rule(Chosen {
+        index: n as u8,
+        rule: rule,
+    })
+}
+
+// The members' rules.
+pub fn listed(list: List) -> Listing
+    requires { ⌜ Valid list ⌝ }
+    ensures { λ r. ⌜ r ≡ acceptedListing (listing list) ⌝ }
+{
+    let mut out = no_rules();
+    let mut count: usize = 0;
+    let mut rest = list.members;
+    while rest != 0 {
+        let n = u64::trailing_zeros(rest) as usize;
+        let rule = list.rules[n];
+        out[count] = rule;
+        count += 1;
+        rest -= 1u64 << n;
+    }
+    Listing {
+        answer: CountAnswer::Count(count as u8),
+        rules: out,
+    }
+}
+
+// The members' types at an argument.
+pub fn allowed(list: List, i: usize) -> AllowedArgs
+    requires { ⌜ Valid list ⌝ }
+    ensures { λ r. ⌜ r ≡ allowedOf i (listing list) ⌝ }
+{
+    let mut out = no_codes();
+    let mut count: usize = 0;
+    let mut rest = list.members;
+    while rest != 0 {
+        let n = u64::trailing_zeros(rest) as usize;
+        let rule = list.rules[n];
+        if (rule.count as usize) <= i {
+            return no_types(Refusal::NoSuchArgument(i));
+        }
+        out[count] = rule.argument(i);
+        count += 1;
+        rest -= 1u64 << n;
+    }
+    AllowedArgs {
+        answer: CountAnswer::Count(count as u8),
+        codes: out,
+    }
+}

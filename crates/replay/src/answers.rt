@@ -1,0 +1,14 @@
+// What the stored answers have in common.
+
+use overloads::Refusal;
+
+// No value, in a stored answer.
+pub const NONE: u8 = 255;
+
+// Whether the refusal has this number and this place.
+pub fn is_refusal(why: Refusal, number: u8, place: usize) -> bool {
+    if why.number() != number {
+        return false;
+    }
+    why.place() == place
+}

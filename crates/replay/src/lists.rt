@@ -1,0 +1,23 @@
+// The lists of stored answers, and the comparison that belongs to each.
+
+use crate::combine;
+use crate::consensus;
+use crate::convertible;
+use crate::named_sets;
+
+pub enum List {
+    Combine,
+    Convertible,
+    NamedSets,
+    Consensus,
+}
+
+// Whether our answer to the record's question is the stored one. A record of another form than its list's does not agree.
+pub fn agrees(list: List, record: &[u8]) -> bool {
+    match list {
+        List::Combine => combine::agrees(record),
+        List::Convertible => convertible::agrees(record),
+        List::NamedSets => named_sets::agrees(record),
+        List::Consensus => consensus::agrees(record),
+    }
+}

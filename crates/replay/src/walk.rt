@@ -1,0 +1,36 @@
+// The walk over a list's records.
+
+use crate::lists::List;
+use crate::lists::agrees;
+use crate::records::load;
+use crate::records::room;
+use crate::records::span_at;
+use crate::tally::Tally;
+
+// Compares the list in the file of this name, and writes what came out.
+pub fn replay(list: List, name: &[u8]) {
+    let mut space = room();
+    let n = load(name, &mut space);
+    let tally = compared(list, &space[..n]);
+    tally.print(name);
+}
+
+// The tally of the whole file. An empty one, or one that ends within a record, counts as a difference.
+fn compared(list: List, file: &[u8]) -> Tally {
+    let mut tally = Tally::new();
+    if file.len() == 0 {
+        return tally.broken();
+    }
+    let mut at = 0;
+    while at < file.len() {
+        let span = span_at(file, at);
+        let from = span.from;
+        let to = span.to;
+        if from <= at {
+            return tally.broken();
+        }
+        tally = tally.with(agrees(list, &file[from..to]));
+        at = to;
+    }
+    tally
+}
