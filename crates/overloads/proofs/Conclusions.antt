@@ -1,19 +1,19 @@
--- The rules of a Regular set one by one: every argument type is a value type, and a rule has a conclusion or is refused 13.
+-- The rules of a Regular set one by one: an argument type is a value type, and a rule has a conclusion or is refused 13.
 -- Assumes nothing.
 use mathlib.Core.Path.{_≡_, refl, sym, ap, ap₂, _∙_, subst}
 use mathlib.Core.Bool.{Bool, true, false}
-use mathlib.Core.List.{List, [], _∷_, _++_, map}
+use mathlib.Core.List.{List, [], _∷_}
 use Prim.Native.Nat.{ℕ, zero, suc, _+_, _-_, _*_, _/_, _%_, _≤_, _<_}
 use native.Mathlib.Nat.{le-of-suc-le-suc}
 use native.Mathlib.Omega.{arith}
 use lib.Dec.{leb, ltb}
 use lib.ListN.{length, getD}
 use borrow.Author.Tests.{ltb-true, lt-ltb}
-use Rattle.overloads.specs.Mask.{choose, both, consIf, odd, every, select, countFrom, bits}
-use Rattle.overloads.specs.Domain.{constructorPart, scalarPart}
+use Rattle.overloads.specs.Mask.{choose, both, every}
+use Rattle.overloads.specs.Domain.{value?}
 use Rattle.overloads.specs.Rule.{ruleOf}
 use Rattle.overloads.specs.TypeCode.{predeclaredCode}
-use Rattle.overloads.specs.Regular.{pairs, codesOf, concludedOf, concluded?, concludes, ruleFrom, ruleFor, signatureFor}
+use Rattle.overloads.specs.Regular.{codesOf, concludedOf, concluded?, concludes, ruleFrom, ruleFor, signatureFor}
 use Rattle.overloads.specs.declared.refusal.Refusal.{Refusal}
 use Rattle.overloads.specs.declared.refusal.Refusal.the-variants.{NoConclusion}
 use Rattle.overloads.specs.declared.regular.ConclusionRule.{ConclusionRule}
@@ -23,63 +23,16 @@ use Rattle.overloads.specs.declared.rule.Rule.{Rule}
 use Rattle.overloads.specs.declared.rule.RuleAnswer.the-variants as rule
 use Rattle.overloads.specs.declared.type_code.CodeAnswer.{CodeAnswer}
 use Rattle.overloads.specs.declared.type_code.CodeAnswer.the-variants as code
-
--- ---- every argument type is a value type
-
-abbrev below : ℕ → ℕ → Bool
-below n k = ltb k n
-
-every-and : (a b : Bool) → a ≡ true → b ≡ true → both a b ≡ true
-every-and a b e f = simp (e, f)
-
-select-below : (n i k m : ℕ) → i + k ≤ n → every (below n) (select (countFrom i k) m) ≡ true
-select-below n i zero m h = refl
-select-below n i (suc k) m h = go (odd m) (select-below n (suc i) k (m / 2) (omega arith))
-  where
-    go : (b : Bool) → every (below n) (select (countFrom (suc i) k) (m / 2)) ≡ true → every (below n) (consIf b i (select (countFrom (suc i) k) (m / 2))) ≡ true
-    go true ih = every-and _ _ (lt-ltb i n (omega arith)) ih
-    go false ih = ih
-
-pub bits-below : (n m : ℕ) → every (below n) (bits n m) ≡ true
-unfolding bits
-bits-below n m = select-below n 0 n m (omega arith)
-
-every-left : (a b : Bool) → both a b ≡ true → a ≡ true
-every-left true b e = refl
-every-left false b e = e
-
-every-right : (a b : Bool) → both a b ≡ true → b ≡ true
-every-right true b e = e
-every-right false b e = let z : _≡_ {A = ℕ} 0 1 = cc in absurd (omega arith)
-
-every-append : (p : ℕ → Bool) (xs ys : List ℕ) → every p xs ≡ true → every p ys ≡ true → every p (xs ++ ys) ≡ true
-every-append p [] ys e f = f
-every-append p (x ∷ xs) ys e f = every-and _ _ (every-left (p x) (every p xs) e) (every-append p xs ys (every-right (p x) (every p xs) e) f)
-
-row-below : (k : ℕ) → k < 13 → (ss : List ℕ) → every (below 12) ss ≡ true → every (below 156) (map (λ s. k * 12 + s) ss) ≡ true
-row-below k h [] e = refl
-row-below k h (s ∷ ss) e =
-    let l : s < 12 = ltb-true s 12 (every-left (below 12 s) (every (below 12) ss) e) in
-    every-and _ _ (lt-ltb (k * 12 + s) 156 (omega arith)) (row-below k h ss (every-right (below 12 s) (every (below 12) ss) e))
-
-pairs-below : (ks ss : List ℕ) → every (below 13) ks ≡ true → every (below 12) ss ≡ true → every (below 156) (pairs ks ss) ≡ true
-pairs-below [] ss e f = refl
-pairs-below (k ∷ ks) ss e f =
-    every-append (below 156) (map (λ s. k * 12 + s) ss) (pairs ks ss)
-    (row-below k (ltb-true k 13 (every-left (below 13 k) (every (below 13) ks) e)) ss f)
-    (pairs-below ks ss (every-right (below 13 k) (every (below 13) ks) e) f)
+use Rattle.overloads.proofs.Filters.{both-left, both-right}
+use Rattle.overloads.proofs.RegularRules.{codes-values}
 
 pub code-below : (r : Regular) (k : ℕ) → k < length (codesOf r) → getD (codesOf r) k 0 < 156
-unfolding codesOf
-code-below r k h =
-    let c = bits-below 13 (r .constructors .0) in
-    let s = bits-below 12 (r .scalars .0) in
-    ltb-true _ 156 (at-each (below 156) (codesOf r) k h (pairs-below (bits 13 (r .constructors .0)) (bits 12 (r .scalars .0)) c s))
+code-below r k h = ltb-true _ 156 (at-each (codesOf r) k h (codes-values r))
   where
-    at-each : (p : ℕ → Bool) (xs : List ℕ) (k : ℕ) → k < length xs → every p xs ≡ true → p (getD xs k 0) ≡ true
-    at-each p [] k h e = absurd (omega arith)
-    at-each p (x ∷ xs) zero h e = every-left (p x) (every p xs) e
-    at-each p (x ∷ xs) (suc k) h e = at-each p xs k (le-of-suc-le-suc h) (every-right (p x) (every p xs) e)
+    at-each : (xs : List ℕ) (k : ℕ) → k < length xs → every value? xs ≡ true → value? (getD xs k 0) ≡ true
+    at-each [] k h e = absurd (omega arith)
+    at-each (x ∷ xs) zero h e = both-left (value? x) (every value? xs) e
+    at-each (x ∷ xs) (suc k) h e = at-each xs k (le-of-suc-le-suc h) (both-right (value? x) (every value? xs) e)
 
 -- ---- a conclusion, or refusal 13
 

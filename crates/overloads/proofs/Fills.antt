@@ -1,12 +1,12 @@
 -- An array of blanks that is filled from the front is the list that was put there, padded with blanks. Assumes nothing.
 use mathlib.Core.Path.{_≡_, sym, ap, _∙_}
-use mathlib.Core.List.{List, [], _∷_, _++_}
+use mathlib.Core.List.{List, [], _∷_, _++_, append-nil}
 use Prim.Native.Nat.{ℕ, zero, suc, _+_, _-_, _≤_}
-use native.Mathlib.Nat.{zero-add, zero-sub, sub-zero, suc-sub-suc}
+use native.Mathlib.Nat.{zero-add, zero-sub, sub-zero, sub-self, suc-sub-suc}
 use native.Mathlib.Numerals.{add-one}
 use native.Mathlib.Omega.{arith}
-use lib.ListN.{length, drop, set, replicate, length-replicate}
-use lib.Seq.{sets, sets-eq}
+use lib.ListN.{length, take, drop, set, replicate, length-replicate}
+use lib.Seq.{sets, sets-eq, length-take-le}
 use Rattle.overloads.specs.Mask.{padded}
 
 module _ {A : Type 0} where
@@ -31,3 +31,12 @@ module _ {A : Type 0} where
 
   pub fill-end : (out : List A) (i : ℕ) {all goal : List A} → all ≡ [] → sets out i all ≡ goal → out ≡ goal
   fill-end out i e left = sym (ap (sets out i) e) ∙ left
+
+  -- an array as long as what is put there
+  pub filled-whole : (n : ℕ) (b : A) (xs : List A) → n ≤ length xs → sets (replicate n b) 0 (take n xs) ≡ take n xs
+  filled-whole n b xs h =
+      let l : length (take n xs) ≡ n = length-take-le n xs h in
+      filled n b (take n xs) (omega arith)
+      ∙ ap (λ (k : ℕ). take n xs ++ replicate (n - k) b) l
+      ∙ ap (λ (k : ℕ). take n xs ++ replicate k b) (sub-self n)
+      ∙ append-nil (take n xs)

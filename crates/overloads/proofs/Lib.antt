@@ -21,3 +21,15 @@ pub mod Verdicts
 pub mod TypesAt
 pub mod Conclusions
 pub mod Listings
+pub mod Expanding
+pub mod Papers
+pub mod TypeCodes
+pub mod Filters
+pub mod RegularCodes
+pub mod RegularSteps
+pub mod Expansions
+pub mod InTurn
+pub mod SetSteps
+pub mod Preferred
+pub mod RegularRules
+pub mod Agreement

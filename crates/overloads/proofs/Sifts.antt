@@ -37,7 +37,7 @@ both-twice true false = refl
 both-twice false b = refl
 
 module _ {A : Type 0} where
-  keep-cons : (p : A → Bool) (b : Bool) (x : A) (ys : List A) → consIf (both b (p x)) x (filter p ys) ≡ filter p (consIf b x ys)
+  pub keep-cons : (p : A → Bool) (b : Bool) (x : A) (ys : List A) → consIf (both b (p x)) x (filter p ys) ≡ filter p (consIf b x ys)
   keep-cons p true x ys = refl
   keep-cons p false x ys = refl
 

@@ -12,4 +12,7 @@ pub mod Rule
 pub mod Listing
 pub mod List
 pub mod Regular
+pub mod Expansion
+pub mod Agreement
+pub mod AnyOverloadSet
 pub mod Paper

@@ -4,8 +4,10 @@
 // crate panic, and `type_code`, the number that stands for a type. Every public function ends on every input and tests it itself.
 
 mod answer;
+mod any_overload_set;
 mod constructor_set;
 mod conversion;
+mod expansion;
 mod list;
 mod listing;
 mod one_bits_iter;
@@ -19,6 +21,9 @@ mod walks;
 pub use answer::CountAnswer;
 pub use answer::Test;
 pub use answer::Verdict;
+pub use any_overload_set::AnyAnswer;
+pub use any_overload_set::AnyOverloadSet;
+pub use any_overload_set::SetKind;
 pub use constructor_set::Constructor;
 pub use constructor_set::ConstructorAnswer;
 pub use constructor_set::ConstructorSet;
@@ -29,6 +34,7 @@ pub use conversion::Combination;
 pub use conversion::automatic_conversion_combine;
 pub use conversion::automatic_conversion_consensus;
 pub use conversion::automatically_converts_to;
+pub use expansion::expand;
 pub use list::Chosen;
 pub use list::ChosenAnswer;
 pub use list::List;

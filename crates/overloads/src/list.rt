@@ -242,7 +242,7 @@ fn held(n: usize) -> usize
 }
 
 // The mask of n members; of more rules than a List holds, none.
-fn full_mask(n: usize) -> u64
+pub fn full_mask(n: usize) -> u64
     ensures { λ r. ⌜ r ≡ choose (leb n mostRules) (2 ^ n - 1) 0 ⌝ }
 {
     if MOST_RULES < n {

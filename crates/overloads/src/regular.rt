@@ -251,7 +251,7 @@ impl Regular {
     }
 
     // The rules of a tested set, in order; refused 13 where one has no conclusion.
-    fn listed(self) -> Listing
+    pub fn listed(self) -> Listing
         requires { ⌜ Known self ⌝ }
         ensures { λ r. ⌜ r ≡ listedRules self ⌝ }
     {
@@ -278,7 +278,7 @@ impl Regular {
     }
 
     // The argument types of the rules: each constructor in turn, over each scalar in turn.
-    fn codes(self) -> Codes
+    pub fn codes(self) -> Codes
         requires { ⌜ Known self ⌝ }
         ensures { λ r. ⌜ r ≡ codesFound (codesOf self) ⌝ }
     {

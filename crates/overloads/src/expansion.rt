@@ -1,0 +1,55 @@
+// A Regular set written out as a List: every rule a record, in the same order. The two kinds of set then answer alike.
+
+ghost use mathlib.Core.Path.{_≡_};
+ghost use lib.ListN.{take};
+ghost use Rattle.overloads.specs.Expansion.{expanded};
+use crate::answer::CountAnswer;
+use crate::answer::Verdict;
+use crate::list::List;
+use crate::list::ListAnswer;
+use crate::list::MOST_RULES;
+use crate::list::accepted;
+use crate::list::full_mask;
+use crate::list::refused;
+use crate::refusal::Refusal;
+use crate::regular::Regular;
+use crate::rule::Rule;
+
+// The List of a Regular set's rules. Refused as the set is, then 3 for more than 63 rules, then 13 where one has no conclusion.
+pub fn expand(set: Regular) -> ListAnswer
+    ensures { λ r. ⌜ r ≡ expanded set ⌝ }
+{
+    if let Verdict::Refused(why) = set.verdict() {
+        return refused(why);
+    }
+    let found = set.codes();
+    let n = found.count;
+    if MOST_RULES < n {
+        return refused(Refusal::TooMany);
+    }
+    let listing = set.listed();
+    let answer = listing.answer;
+    let rules = listing.rules;
+    match answer {
+        CountAnswer::Refused(why) => refused(why),
+        CountAnswer::Count(_) => accepted(List {
+            rules: front(rules),
+            len: n,
+            members: full_mask(n),
+        }),
+    }
+}
+
+// The first 63 rules of a listing.
+fn front(rules: [Rule; 156]) -> [Rule; 63]
+    ensures { λ r. ⌜ r ≡ take 63 rules ⌝ }
+{
+    let mut out = [Rule::BLANK; 63];
+    let mut i: usize = 0;
+    while i < MOST_RULES {
+        let rule = rules[i];
+        out[i] = rule;
+        i += 1;
+    }
+    out
+}
