@@ -69,10 +69,10 @@ pub fn first(list: List) -> ChosenAnswer
     if rest == 0 {
         return ChosenAnswer::Refused(Refusal::EmptySet(0));
     }
-    let n = u64::trailing_zeros(rest) as usize;
-    let rule = list.rules[n];
+    let lowest = u64::trailing_zeros(rest) as usize;
+    let rule = list.rules[lowest];
     ChosenAnswer::Rule(Chosen {
-        index: n as u8,
+        index: lowest as u8,
         rule: rule,
     })
 }

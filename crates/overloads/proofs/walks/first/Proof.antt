@@ -18,8 +18,8 @@ lowest c = member _ _ (c .before .pre) (omega arith) (c .before .pre .within)
 returns : tie.Need-returns
 returns c = sym (ap preferredOf (entries-none _ (c .if1 .taken)))
 
-cast-n : tie.Need-cast-n
-cast-n c = omega (arith, lowest c .below)
+cast-lowest : tie.Need-cast-lowest
+cast-lowest c = omega (arith, lowest c .below)
 
 mul-rule : tie.Need-mul-rule
 mul-rule c = omega (arith, lowest c .below)
@@ -34,4 +34,4 @@ returns-2 : tie.Need-returns-2
 returns-2 c = preferred-first (c .before .before .args .t1) (c .before .before .pre) (omega arith)
 
 pub first-spec : {M : Type 1} → statement M
-first-spec = tie.close (tie.spec returns cast-n mul-rule element-copy-out-rule cast-t13 returns-2)
+first-spec = tie.close (tie.spec returns cast-lowest mul-rule element-copy-out-rule cast-t13 returns-2)
