@@ -12,23 +12,23 @@ use native.Mathlib.Omega.{arith}
 use lib.Dec.{leb}
 use lib.ListN.{length}
 use borrow.Author.Tests.{le-leb, leb-true}
-use Rattle.overloads.specs.Mask.{choose, filter, every}
+use Rattle.domain.specs.Mask.{choose, filter, every}
 use Rattle.overloads.specs.Signature.{Signature}
 use Rattle.overloads.specs.Rule.{ruleOf, passes}
 use Rattle.overloads.specs.List.{mostRules, onVerdict, listing, acceptedList, refusedList, kept, listArg}
 use Rattle.overloads.specs.Regular.{Known, regularRules, regularVerdict, allConclude}
 use Rattle.overloads.specs.Expansion.{listOf, expanded}
 use Rattle.overloads.specs.Agreement.{Expands, inTurn, stepRegular, askList, nextRegular, nextList, knownStep, someArgument, SamePreferred, Agreed}
-use Rattle.overloads.specs.declared.answer.Verdict.{Verdict}
-use Rattle.overloads.specs.declared.answer.Verdict.the-variants.{Accepted, Refused}
+use Rattle.domain.specs.declared.answer.Verdict.{Verdict}
+use Rattle.domain.specs.declared.answer.Verdict.the-variants.{Accepted, Refused}
 use Rattle.overloads.specs.declared.list.List.{List}
-use Rattle.overloads.specs.declared.refusal.Refusal.the-variants.{TooMany, NoConclusion}
+use Rattle.domain.specs.declared.refusal.Refusal.the-variants.{TooMany, NoConclusion}
 use Rattle.overloads.specs.declared.regular.Regular.{Regular}
 use Rattle.overloads.specs.declared.regular.RegularAnswer.the-variants as regular
 use Rattle.overloads.specs.declared.rule.Keep.{Keep}
 use Rattle.overloads.specs.declared.rule.Keep.the-variants.{Argument, Concrete}
 use Rattle.overloads.proofs.Regulars.{accepted-known}
-use Rattle.overloads.proofs.Filters.{both-left, both-right}
+use Rattle.domain.proofs.Filters.{both-left, both-right}
 use Rattle.overloads.proofs.InTurn.{lasts, listed-after}
 use Rattle.overloads.proofs.Steps.{listing-kept}
 use Rattle.overloads.proofs.SetSteps.{Lasting, step-rules, step-lasting, step-known, step-concludes, known-accepted, asked-regular}

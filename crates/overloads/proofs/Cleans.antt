@@ -6,7 +6,7 @@ use Prim.Native.Nat.{_-_, _^_, _≤_, _<_}
 use native.Mathlib.Omega.{arith}
 use lib.ListN.{length, replicate, length-map}
 use lib.Seq.{take-at}
-use Rattle.overloads.specs.Mask.{select, padded}
+use Rattle.domain.specs.Mask.{select, padded}
 use Rattle.overloads.specs.Signature.{Signature}
 use Rattle.overloads.specs.Choice.{number}
 use Rattle.overloads.specs.Rule.{blankRule, signatureOf, ruleOf}

@@ -9,21 +9,21 @@ use native.Mathlib.Omega.{arith}
 use lib.Dec.{leb, ltb}
 use lib.ListN.{length, getD}
 use borrow.Author.Tests.{ltb-true, lt-ltb}
-use Rattle.overloads.specs.Mask.{choose, both, every}
-use Rattle.overloads.specs.Domain.{value?}
+use Rattle.domain.specs.Mask.{choose, both, every}
+use Rattle.domain.specs.Domain.{value?}
 use Rattle.overloads.specs.Rule.{ruleOf}
-use Rattle.overloads.specs.TypeCode.{predeclaredCode}
+use Rattle.domain.specs.TypeCode.{predeclaredCode}
 use Rattle.overloads.specs.Regular.{codesOf, concludedOf, concluded?, concludes, ruleFrom, ruleFor, signatureFor}
-use Rattle.overloads.specs.declared.refusal.Refusal.{Refusal}
-use Rattle.overloads.specs.declared.refusal.Refusal.the-variants.{NoConclusion}
+use Rattle.domain.specs.declared.refusal.Refusal.{Refusal}
+use Rattle.domain.specs.declared.refusal.Refusal.the-variants.{NoConclusion}
 use Rattle.overloads.specs.declared.regular.ConclusionRule.{ConclusionRule}
 use Rattle.overloads.specs.declared.regular.ConclusionRule.the-variants as conclusion
 use Rattle.overloads.specs.declared.regular.Regular.{Regular}
 use Rattle.overloads.specs.declared.rule.Rule.{Rule}
 use Rattle.overloads.specs.declared.rule.RuleAnswer.the-variants as rule
-use Rattle.overloads.specs.declared.type_code.CodeAnswer.{CodeAnswer}
-use Rattle.overloads.specs.declared.type_code.CodeAnswer.the-variants as code
-use Rattle.overloads.proofs.Filters.{both-left, both-right}
+use Rattle.domain.specs.declared.type_code.CodeAnswer.{CodeAnswer}
+use Rattle.domain.specs.declared.type_code.CodeAnswer.the-variants as code
+use Rattle.domain.proofs.Filters.{both-left, both-right}
 use Rattle.overloads.proofs.RegularRules.{codes-values}
 
 pub code-below : (r : Regular) (k : ℕ) → k < length (codesOf r) → getD (codesOf r) k 0 < 156

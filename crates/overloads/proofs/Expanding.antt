@@ -10,18 +10,18 @@ use lib.Dec.{leb}
 use lib.ListN.{length, take, replicate, length-map, length-replicate, length-append}
 use lib.Seq.{take-at}
 use borrow.Author.Tests.{le-leb, lt-leb}
-use Rattle.overloads.specs.Mask.{choose, padded}
+use Rattle.domain.specs.Mask.{choose, padded}
 use Rattle.overloads.specs.Rule.{blankRule, ruleOf}
 use Rattle.overloads.specs.Listing.{acceptedListing, refusedListing}
 use Rattle.overloads.specs.List.{onVerdict, acceptedList, refusedList}
 use Rattle.overloads.specs.Regular.{codesOf, regularRules, regularVerdict, allConclude, listedRules}
 use Rattle.overloads.specs.Expansion.{listOf, expanded}
-use Rattle.overloads.specs.declared.answer.CountAnswer.the-variants as count
-use Rattle.overloads.specs.declared.answer.Verdict.the-variants.{Accepted}
+use Rattle.domain.specs.declared.answer.CountAnswer.the-variants as count
+use Rattle.domain.specs.declared.answer.Verdict.the-variants.{Accepted}
 use Rattle.overloads.specs.declared.list.List.{List}
 use Rattle.overloads.specs.declared.listing.Listing.{Listing}
-use Rattle.overloads.specs.declared.refusal.Refusal.{Refusal}
-use Rattle.overloads.specs.declared.refusal.Refusal.the-variants.{TooMany, NoConclusion}
+use Rattle.domain.specs.declared.refusal.Refusal.{Refusal}
+use Rattle.domain.specs.declared.refusal.Refusal.the-variants.{TooMany, NoConclusion}
 use Rattle.overloads.specs.declared.regular.Regular.{Regular}
 use Rattle.overloads.specs.declared.rule.Rule.{Rule}
 use Rattle.overloads.proofs.Listings.{rules-count}

@@ -1,13 +1,3 @@
-pub mod Table
-pub mod Masks
-pub mod Sifts
-pub mod Meets
-pub mod Bits
-pub mod Scalars
-pub mod Codes
-pub mod Constructors
-pub mod Combinations
-pub mod Fills
 pub mod Rules
 pub mod Regulars
 pub mod Puts
@@ -22,9 +12,6 @@ pub mod TypesAt
 pub mod Conclusions
 pub mod Listings
 pub mod Expanding
-pub mod Papers
-pub mod TypeCodes
-pub mod Filters
 pub mod RegularCodes
 pub mod RegularSteps
 pub mod Expansions
@@ -33,3 +20,4 @@ pub mod SetSteps
 pub mod Preferred
 pub mod RegularRules
 pub mod Agreement
+pub mod SetPapers

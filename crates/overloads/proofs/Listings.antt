@@ -6,19 +6,19 @@ use Prim.Native.Nat.{ℕ, _+_, _-_, _≤_, _<_}
 use native.Mathlib.Omega.{arith}
 use lib.ListN.{length, getD, drop, replicate, length-map, length-replicate, length-append, List·getD-append, drop-of-length-le}
 use lib.Seq.{sets}
-use Rattle.overloads.specs.Mask.{choose, both, every, bits, padded}
+use Rattle.domain.specs.Mask.{choose, both, every, bits, padded}
 use Rattle.overloads.specs.Rule.{blankRule, ruleOf}
 use Rattle.overloads.specs.Listing.{acceptedListing, refusedListing}
 use Rattle.overloads.specs.Regular.{codesOf, regularRules, signatureFor, codesFound, concludes, allConclude, listedRules}
-use Rattle.overloads.specs.declared.answer.CountAnswer.the-variants.{Count}
+use Rattle.domain.specs.declared.answer.CountAnswer.the-variants.{Count}
 use Rattle.overloads.specs.declared.listing.Listing.{Listing}
-use Rattle.overloads.specs.declared.refusal.Refusal.the-variants.{NoConclusion}
+use Rattle.domain.specs.declared.refusal.Refusal.the-variants.{NoConclusion}
 use Rattle.overloads.specs.declared.regular.Codes.{Codes}
 use Rattle.overloads.specs.declared.regular.Regular.{Regular}
 use Rattle.overloads.specs.declared.rule.Rule.{Rule}
 use Rattle.overloads.proofs.Regulars.{pairs-most}
-use Rattle.overloads.proofs.Codes.{from-here}
-use Rattle.overloads.proofs.Fills.{filled}
+use Rattle.domain.proofs.Codes.{from-here}
+use Rattle.domain.proofs.Fills.{filled}
 
 pub codes-few : (r : Regular) → length (codesOf r) ≤ 156
 unfolding codesOf

@@ -9,7 +9,7 @@ use lib.ListN.{length, replicate, length-append}
 use lib.Seq.{sets, length-sets}
 use Rattle.overloads.specs.Regular.{put, codesFound}
 use Rattle.overloads.specs.declared.regular.Codes.{Codes}
-use Rattle.overloads.proofs.Fills.{filled}
+use Rattle.domain.proofs.Fills.{filled}
 
 sets-append : {A : Type 0} (l : List A) (i : ℕ) (xs ys : List A) → sets (sets l i xs) (i + length xs) ys ≡ sets l i (xs ++ ys)
 sets-append l i [] ys = ap (λ (n : ℕ). sets l n ys) (add-zero i)

@@ -11,17 +11,17 @@ use lib.Dec.{eqb, eqb→eq, ltb}
 use lib.ListN.{length}
 use lib.Seq.{take-all}
 use borrow.Author.Tests.{lt-ltb, ltb-true}
-use Rattle.overloads.specs.Mask.{choose, both, consIf, odd, filter, every, select, sift, upTo, bits, maskOf}
-use Rattle.overloads.specs.Domain.{scalars, constructors, value?, abstract?, converts, constructorPart, scalarPart, isAbstract}
+use Rattle.domain.specs.Mask.{choose, both, consIf, odd, filter, every, select, sift, upTo, bits, maskOf}
+use Rattle.domain.specs.Domain.{scalars, constructors, value?, abstract?, converts, constructorPart, scalarPart, isAbstract}
 use Rattle.overloads.specs.Signature.{reaches}
-use Rattle.overloads.specs.Scalar.{scalarsThat, convertibleFrom}
-use Rattle.overloads.specs.Constructor.{singletonOfCode}
+use Rattle.domain.specs.Scalar.{scalarsThat, convertibleFrom}
+use Rattle.domain.specs.Constructor.{singletonOfCode}
 use Rattle.overloads.specs.Regular.{pairs, codesOf, narrowed, concreteSet, reachedScalars}
 use Rattle.overloads.specs.declared.regular.Regular.{Regular}
-use Rattle.overloads.proofs.Table.{at}
-use Rattle.overloads.proofs.Meets.{select-meet, select-ones}
-use Rattle.overloads.proofs.Bits.{mask-filter}
-use Rattle.overloads.proofs.Filters.{both-left, both-right, both-true, filter-among, filter-all, filter-none, filter-append, filter-map}
+use Rattle.domain.proofs.Table.{at}
+use Rattle.domain.proofs.Meets.{select-meet, select-ones}
+use Rattle.domain.proofs.Bits.{mask-filter}
+use Rattle.domain.proofs.Filters.{both-left, both-right, both-true, filter-among, filter-all, filter-none, filter-append, filter-map}
 
 -- ---- a mask met with the mask of the numbers that pass
 

@@ -8,16 +8,16 @@ use native.Mathlib.Omega.{arith}
 use lib.Dec.{T, leb, ltb}
 use lib.ListN.{replicate, length-replicate}
 use borrow.Author.Tests.{lt-ltb, le-leb, ltb-true}
-use Rattle.overloads.specs.Mask.{either, every, bits, upTo}
-use Rattle.overloads.specs.Domain.{scalars, constructors, value?, known?}
-use Rattle.overloads.specs.TypeCode.{predeclaredCode}
+use Rattle.domain.specs.Mask.{either, every, bits, upTo}
+use Rattle.domain.specs.Domain.{scalars, constructors, value?, known?}
+use Rattle.domain.specs.TypeCode.{predeclaredCode}
 use Rattle.overloads.specs.Expansion.{short?, typed?}
 use Rattle.overloads.specs.Regular.{Known, pairs, codesOf, signatureFor, regularRules, concludedOf, concluded?, codeIn, allConclude}
 use Rattle.overloads.specs.declared.regular.ConclusionRule.{ConclusionRule}
 use Rattle.overloads.specs.declared.regular.ConclusionRule.the-variants.{ArgumentType, Scalar, Frexp, Modf, U32, I32, Vec2F, Vec4F, Vec4I, Vec4U}
 use Rattle.overloads.specs.declared.regular.Regular.{Regular}
-use Rattle.overloads.proofs.Table as table
-use Rattle.overloads.proofs.Filters.{both-left, both-right, both-true}
+use Rattle.domain.proofs.Table as table
+use Rattle.domain.proofs.Filters.{both-left, both-right, both-true}
 use Rattle.overloads.proofs.RegularCodes.{every-select}
 
 -- ---- every argument type is a value type

@@ -8,14 +8,14 @@ use native.Mathlib.Nat.{lt-of-le-of-lt, le-of-suc-le-suc, not-suc-le-zero}
 use lib.Bits.{and-le-l}
 use lib.Dec.{lit≤, lit<}
 use lib.ListN.{replicate}
-use Rattle.overloads.specs.Mask.{both, filter, bits}
-use Rattle.overloads.specs.Domain.{abstract?, isAbstract}
+use Rattle.domain.specs.Mask.{both, filter, bits}
+use Rattle.domain.specs.Domain.{abstract?, isAbstract}
 use Rattle.overloads.specs.Signature.{reaches, takesAt, takes, allConcrete, concrete}
-use Rattle.overloads.specs.Scalar.{scalarsThat}
-use Rattle.overloads.specs.Constructor.{singletonOfCode}
+use Rattle.domain.specs.Scalar.{scalarsThat}
+use Rattle.domain.specs.Constructor.{singletonOfCode}
 use Rattle.overloads.specs.Regular.{Known, codesOf, signatureFor, regularRules, emptyRegular, narrowed, concreteSet, reachedScalars}
 use Rattle.overloads.specs.declared.regular.Regular.{Regular}
-use Rattle.overloads.proofs.Filters.{both-comm, filter-same, filter-none, filter-map}
+use Rattle.domain.proofs.Filters.{both-comm, filter-same, filter-none, filter-map}
 use Rattle.overloads.proofs.RegularCodes.{narrowed-codes, concrete-codes}
 
 -- ---- a rule of equal arguments

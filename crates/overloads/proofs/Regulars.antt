@@ -9,21 +9,21 @@ use lib.Count.{trailingZeros}
 use lib.Dec.{eqb, leb, ltb, lit≤}
 use lib.ListN.{length, replicate, length-map, length-append, length-replicate}
 use borrow.Author.Tests.{ltb-true, leb-true, eqb-true, eqb-false}
-use Rattle.overloads.specs.Mask.{choose, both, either, every, isOne, bits}
+use Rattle.domain.specs.Mask.{choose, both, either, every, isOne, bits}
 use Rattle.overloads.specs.Choice.{longest}
 use Rattle.overloads.specs.List.{emptyOf, countOf}
 use Rattle.overloads.specs.Regular.{Known, pairs, codesOf, regularRules, signatureFor, regularVerdict, emptySet?, preferredAmong, ruleFor}
-use Rattle.overloads.specs.declared.answer.Verdict.{Verdict}
-use Rattle.overloads.specs.declared.answer.Verdict.the-variants.{Accepted, Refused}
-use Rattle.overloads.specs.declared.answer.Test.the-variants.{Yes, No}
-use Rattle.overloads.specs.declared.answer.CountAnswer.the-variants as count
-use Rattle.overloads.specs.declared.refusal.Refusal.{Refusal}
-use Rattle.overloads.specs.declared.refusal.Refusal.the-variants.{EmptySet, SeveralConstructors, TooMany, Unknown}
+use Rattle.domain.specs.declared.answer.Verdict.{Verdict}
+use Rattle.domain.specs.declared.answer.Verdict.the-variants.{Accepted, Refused}
+use Rattle.domain.specs.declared.answer.Test.the-variants.{Yes, No}
+use Rattle.domain.specs.declared.answer.CountAnswer.the-variants as count
+use Rattle.domain.specs.declared.refusal.Refusal.{Refusal}
+use Rattle.domain.specs.declared.refusal.Refusal.the-variants.{EmptySet, SeveralConstructors, TooMany, Unknown}
 use Rattle.overloads.specs.declared.regular.Regular.{Regular}
 use Rattle.overloads.specs.declared.rule.RuleAnswer.the-variants as rule
-use Rattle.overloads.proofs.Masks.{trailing-lt}
-use Rattle.overloads.proofs.Constructors.{only-one, several}
-use Rattle.overloads.proofs.Bits.{bits-first, bits-none, bits-length}
+use Rattle.domain.proofs.Masks.{trailing-lt}
+use Rattle.domain.proofs.Constructors.{only-one, several}
+use Rattle.domain.proofs.Bits.{bits-first, bits-none, bits-length}
 
 -- ---- pairs of constructors and scalars
 

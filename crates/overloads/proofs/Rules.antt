@@ -9,8 +9,8 @@ use lib.Dec.{eqb, leb, ltb}
 use lib.ListN.{length, take, getD, replicate, length-take, length-replicate, getD-replicate, List·getD-eq-default}
 use lib.Seq.{getD-take, length-take-le}
 use borrow.Author.Tests.{le-leb, lt-leb, leb-true, leb-false, ltb-true, ltb-false, lt-ltb, le-ltb, ne-eqb}
-use Rattle.overloads.specs.Mask.{choose, both, either, every}
-use Rattle.overloads.specs.Domain.{converts, value?, known?, isAbstract}
+use Rattle.domain.specs.Mask.{choose, both, either, every}
+use Rattle.domain.specs.Domain.{converts, value?, known?, isAbstract}
 use Rattle.overloads.specs.Signature.{reaches, takesAt, takes, allConcrete, concrete}
 use Rattle.overloads.specs.Rule.{argumentsOf, signatureOf, knownRule}
 use Rattle.overloads.specs.declared.rule.Rule.{Rule}

@@ -9,23 +9,23 @@ use Prim.Native.Nat.{ℕ, _^_, _≤_}
 use lib.Bits.{bitAnd, and-zero-l}
 use lib.Dec.{ltb}
 use borrow.Author.Tests.{ltb-true, ltb-false, lt-ltb, le-leb}
-use Rattle.overloads.specs.Mask.{choose, both, filter, every, bits}
-use Rattle.overloads.specs.Domain.{isAbstract}
+use Rattle.domain.specs.Mask.{choose, both, filter, every, bits}
+use Rattle.domain.specs.Domain.{isAbstract}
 use Rattle.overloads.specs.Signature.{reaches}
-use Rattle.overloads.specs.Constructor.{singletonOfCode}
+use Rattle.domain.specs.Constructor.{singletonOfCode}
 use Rattle.overloads.specs.Rule.{passes}
 use Rattle.overloads.specs.Regular.{Known, pairs, codesOf, signatureFor, regularRules, regularVerdict, emptyRegular, narrowed, concreteSet, concludedOf, concluded?, allConclude, regularArg, regularConcrete}
 use Rattle.overloads.specs.Agreement.{stepRegular, askRegular, knownStep}
 use Rattle.overloads.specs.List.{onVerdict}
-use Rattle.overloads.specs.declared.answer.Verdict.{Verdict}
-use Rattle.overloads.specs.declared.answer.Verdict.the-variants.{Accepted}
+use Rattle.domain.specs.declared.answer.Verdict.{Verdict}
+use Rattle.domain.specs.declared.answer.Verdict.the-variants.{Accepted}
 use Rattle.overloads.specs.declared.regular.ConclusionRule.{ConclusionRule}
 use Rattle.overloads.specs.declared.regular.Regular.{Regular}
 use Rattle.overloads.specs.declared.regular.RegularAnswer.the-variants as regular
 use Rattle.overloads.specs.declared.rule.Keep.{Keep}
 use Rattle.overloads.specs.declared.rule.Keep.the-variants.{Argument, Concrete}
-use Rattle.overloads.proofs.Bits.{bits-none}
-use Rattle.overloads.proofs.Filters.{every-filter}
+use Rattle.domain.proofs.Bits.{bits-none}
+use Rattle.domain.proofs.Filters.{every-filter}
 use Rattle.overloads.proofs.InTurn.{listed-both, listed-comm, listed-twice, listed-all}
 use Rattle.overloads.proofs.RegularCodes.{narrowed-codes, concrete-codes}
 use Rattle.overloads.proofs.RegularSteps.{narrowed-rules, past-rules, concrete-rules, narrowed-known, concrete-known, empty-known}

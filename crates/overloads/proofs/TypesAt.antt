@@ -5,11 +5,11 @@ use mathlib.Core.List.{List, [], _∷_, map}
 use Prim.Native.Nat.{ℕ, _≤_, _<_}
 use lib.ListN.{length}
 use borrow.Author.Tests.{lt-ltb, le-ltb}
-use Rattle.overloads.specs.Mask.{every}
+use Rattle.domain.specs.Mask.{every}
 use Rattle.overloads.specs.Signature.{Signature}
 use Rattle.overloads.specs.Listing.{acceptedTypes, refusedTypes, typeAt, hasAt}
 use Rattle.overloads.specs.List.{allowedOf}
-use Rattle.overloads.specs.declared.refusal.Refusal.the-variants.{NoSuchArgument}
+use Rattle.domain.specs.declared.refusal.Refusal.the-variants.{NoSuchArgument}
 
 module _ (i : ℕ) (rs : List Signature) {rest : List Signature} (left : every (hasAt i) rest ≡ every (hasAt i) rs) where
   pub lacks : {s : Signature} {ss : List Signature} → rest ≡ s ∷ ss → length (s .arguments) ≤ i → refusedTypes (NoSuchArgument i) ≡ allowedOf i rs

@@ -8,8 +8,8 @@ use mathlib.Core.List.{[], _∷_}
 use Prim.Native.Nat.{_≤_}
 use lib.Dec.{ltb}
 use lib.ListN.{length}
-use Rattle.overloads.specs.Mask.{choose}
-use Rattle.overloads.specs.Domain.{known?}
+use Rattle.domain.specs.Mask.{choose}
+use Rattle.domain.specs.Domain.{known?}
 use Rattle.overloads.specs.Signature.{Signature}
 use Rattle.overloads.specs.List.{mostRules, onVerdict, listing, acceptedList, refusedList, listStep, listArg, listPreferred}
 use Rattle.overloads.specs.Regular.{Known, regularRules, allConclude, emptyRegular, narrowed, concreteSet, regularArg, regularConcrete, regularPreferred}

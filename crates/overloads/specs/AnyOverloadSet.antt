@@ -4,9 +4,9 @@ use lib.ListN.{replicate}
 use Rattle.overloads.specs.Rule.{blankRule}
 use Rattle.overloads.specs.List.{mostRules, listArg, listStep, listEmpty, listCount, listPreferred, listListing, listAllowed}
 use Rattle.overloads.specs.Regular.{emptyRegular, regularEmpty, regularCount, regularArg, regularConcrete, regularPreferred, regularListing, regularAllowed}
-use Rattle.overloads.specs.declared.answer.Verdict.the-variants as verdict
-use Rattle.overloads.specs.declared.answer.Test.{Test}
-use Rattle.overloads.specs.declared.answer.CountAnswer.{CountAnswer}
+use Rattle.domain.specs.declared.answer.Verdict.the-variants as verdict
+use Rattle.domain.specs.declared.answer.Test.{Test}
+use Rattle.domain.specs.declared.answer.CountAnswer.{CountAnswer}
 use Rattle.overloads.specs.declared.any_overload_set.AnyOverloadSet.{AnyOverloadSet}
 use Rattle.overloads.specs.declared.any_overload_set.SetKind.{SetKind}
 use Rattle.overloads.specs.declared.any_overload_set.SetKind.the-variants as kind

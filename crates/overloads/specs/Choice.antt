@@ -4,7 +4,7 @@ use mathlib.Core.List.{List, [], _∷_}
 use Prim.Native.Nat.{ℕ, zero, suc, max}
 use lib.Dec.{ltb}
 use lib.ListN.{length}
-use Rattle.overloads.specs.Mask.{choose, either, consIf}
+use Rattle.domain.specs.Mask.{choose, either, consIf}
 use Rattle.overloads.specs.Signature.{Signature, takes, concrete}
 
 -- a rule with its index in the function's full listing

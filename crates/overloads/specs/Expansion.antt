@@ -5,15 +5,15 @@ use mathlib.Core.List.{map}
 use Prim.Native.Nat.{_-_, _^_}
 use lib.Dec.{leb}
 use lib.ListN.{length}
-use Rattle.overloads.specs.Mask.{choose, both, every, padded}
-use Rattle.overloads.specs.Domain.{value?, known?}
+use Rattle.domain.specs.Mask.{choose, both, every, padded}
+use Rattle.domain.specs.Domain.{value?, known?}
 use Rattle.overloads.specs.Signature.{Signature}
 use Rattle.overloads.specs.Rule.{mostArguments, blankRule, ruleOf}
 use Rattle.overloads.specs.List.{mostRules, onVerdict, acceptedList, refusedList}
 use Rattle.overloads.specs.Regular.{regularVerdict, regularRules, allConclude}
 use Rattle.overloads.specs.declared.list.List.{List}
 use Rattle.overloads.specs.declared.list.ListAnswer.{ListAnswer}
-use Rattle.overloads.specs.declared.refusal.Refusal.the-variants.{TooMany, NoConclusion}
+use Rattle.domain.specs.declared.refusal.Refusal.the-variants.{TooMany, NoConclusion}
 use Rattle.overloads.specs.declared.regular.Regular.{Regular}
 
 -- the List of these rules, in this order, all of them members

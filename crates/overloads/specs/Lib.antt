@@ -1,13 +1,5 @@
-pub mod Mask
-pub mod Domain
 pub mod Signature
 pub mod Choice
-pub mod Refusal
-pub mod OneBits
-pub mod Scalar
-pub mod TypeCode
-pub mod Constructor
-pub mod Conversion
 pub mod Rule
 pub mod Listing
 pub mod List
@@ -15,4 +7,4 @@ pub mod Regular
 pub mod Expansion
 pub mod Agreement
 pub mod AnyOverloadSet
-pub mod Paper
+pub mod SetPaper

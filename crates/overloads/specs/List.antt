@@ -5,26 +5,26 @@ use mathlib.Core.List.{[], _∷_, map}
 use Prim.Native.Nat.{ℕ, _-_, _^_, _≤_, _<_}
 use lib.Dec.{leb, ltb}
 use lib.ListN.{take, replicate}
-use Rattle.overloads.specs.Mask.{choose, both, every, select, sift, padded}
-use Rattle.overloads.specs.Domain.{known?}
+use Rattle.domain.specs.Mask.{choose, both, every, select, sift, padded}
+use Rattle.domain.specs.Domain.{known?}
 use Rattle.overloads.specs.Signature.{Signature}
 use Rattle.overloads.specs.Choice.{Entry, number, longest}
 use Rattle.overloads.specs.Rule.{blankRule, signatureOf, ruleOf, knownRule, shortRule, passes}
 use Rattle.overloads.specs.Listing.{acceptedListing, refusedListing, acceptedTypes, refusedTypes, typeAt, hasAt}
-use Rattle.overloads.specs.declared.answer.Verdict.{Verdict}
-use Rattle.overloads.specs.declared.answer.Verdict.the-variants as verdict
-use Rattle.overloads.specs.declared.answer.Test.{Test}
-use Rattle.overloads.specs.declared.answer.Test.the-variants as test
-use Rattle.overloads.specs.declared.answer.CountAnswer.{CountAnswer}
-use Rattle.overloads.specs.declared.answer.CountAnswer.the-variants as count
+use Rattle.domain.specs.declared.answer.Verdict.{Verdict}
+use Rattle.domain.specs.declared.answer.Verdict.the-variants as verdict
+use Rattle.domain.specs.declared.answer.Test.{Test}
+use Rattle.domain.specs.declared.answer.Test.the-variants as test
+use Rattle.domain.specs.declared.answer.CountAnswer.{CountAnswer}
+use Rattle.domain.specs.declared.answer.CountAnswer.the-variants as count
 use Rattle.overloads.specs.declared.listing.Listing.{Listing}
 use Rattle.overloads.specs.declared.listing.AllowedArgs.{AllowedArgs}
 use Rattle.overloads.specs.declared.list.List.{List}
 use Rattle.overloads.specs.declared.list.ListAnswer.{ListAnswer}
 use Rattle.overloads.specs.declared.list.ChosenAnswer.{ChosenAnswer}
 use Rattle.overloads.specs.declared.list.ChosenAnswer.the-variants as chosen
-use Rattle.overloads.specs.declared.refusal.Refusal.{Refusal}
-use Rattle.overloads.specs.declared.refusal.Refusal.the-variants.{EmptySet, TooMany, NoSuchArgument, Unknown}
+use Rattle.domain.specs.declared.refusal.Refusal.{Refusal}
+use Rattle.domain.specs.declared.refusal.Refusal.the-variants.{EmptySet, TooMany, NoSuchArgument, Unknown}
 use Rattle.overloads.specs.declared.rule.Rule.{Rule}
 use Rattle.overloads.specs.declared.rule.Keep.{Keep}
 use Rattle.overloads.specs.declared.rule.Keep.the-variants.{Argument}

@@ -4,13 +4,13 @@ use mathlib.Core.List.{List, map}
 use Prim.Native.Nat.{ℕ}
 use lib.Dec.{ltb}
 use lib.ListN.{length, getD, replicate}
-use Rattle.overloads.specs.Mask.{choose, every, padded}
+use Rattle.domain.specs.Mask.{choose, every, padded}
 use Rattle.overloads.specs.Signature.{Signature}
 use Rattle.overloads.specs.Rule.{blankRule, ruleOf}
-use Rattle.overloads.specs.declared.answer.CountAnswer.the-variants.{Count, Refused}
+use Rattle.domain.specs.declared.answer.CountAnswer.the-variants.{Count, Refused}
 use Rattle.overloads.specs.declared.listing.Listing.{Listing}
 use Rattle.overloads.specs.declared.listing.AllowedArgs.{AllowedArgs}
-use Rattle.overloads.specs.declared.refusal.Refusal.{Refusal}
+use Rattle.domain.specs.declared.refusal.Refusal.{Refusal}
 
 -- a Regular set of 13 constructors and 12 scalars has the longest listing
 abbrev pub mostListed : ℕ

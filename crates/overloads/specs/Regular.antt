@@ -7,24 +7,24 @@ use lib.Dec.{eqb, leb, ltb}
 use lib.ListN.{length, replicate}
 use lib.Seq.{sets}
 use mathlib.Core.Path.{_≡_}
-use Rattle.overloads.specs.Mask.{choose, both, either, every, bits, padded}
-use Rattle.overloads.specs.Domain.{value?, known?, constructorPart, scalarPart, abstract?}
+use Rattle.domain.specs.Mask.{choose, both, either, every, bits, padded}
+use Rattle.domain.specs.Domain.{value?, known?, constructorPart, scalarPart, abstract?}
 use Rattle.overloads.specs.Signature.{Signature}
-use Rattle.overloads.specs.Scalar.{convertibleFrom, scalarsThat}
-use Rattle.overloads.specs.Constructor.{singletonOfCode}
-use Rattle.overloads.specs.TypeCode.{predeclaredCode}
+use Rattle.domain.specs.Scalar.{convertibleFrom, scalarsThat}
+use Rattle.domain.specs.Constructor.{singletonOfCode}
+use Rattle.domain.specs.TypeCode.{predeclaredCode}
 use Rattle.overloads.specs.Rule.{mostArguments, ruleOf}
 use Rattle.overloads.specs.Listing.{mostListed, acceptedListing, refusedListing, acceptedTypes, refusedTypes}
 use Rattle.overloads.specs.List.{onVerdict, emptyOf, countOf}
-use Rattle.overloads.specs.declared.answer.Verdict.{Verdict}
-use Rattle.overloads.specs.declared.answer.Verdict.the-variants as verdict
-use Rattle.overloads.specs.declared.answer.Test.{Test}
-use Rattle.overloads.specs.declared.answer.Test.the-variants as test
-use Rattle.overloads.specs.declared.answer.CountAnswer.{CountAnswer}
-use Rattle.overloads.specs.declared.answer.CountAnswer.the-variants as count
+use Rattle.domain.specs.declared.answer.Verdict.{Verdict}
+use Rattle.domain.specs.declared.answer.Verdict.the-variants as verdict
+use Rattle.domain.specs.declared.answer.Test.{Test}
+use Rattle.domain.specs.declared.answer.Test.the-variants as test
+use Rattle.domain.specs.declared.answer.CountAnswer.{CountAnswer}
+use Rattle.domain.specs.declared.answer.CountAnswer.the-variants as count
 use Rattle.overloads.specs.declared.listing.Listing.{Listing}
 use Rattle.overloads.specs.declared.listing.AllowedArgs.{AllowedArgs}
-use Rattle.overloads.specs.declared.refusal.Refusal.the-variants.{EmptySet, SeveralConstructors, TooMany, Unknown, NoConclusion}
+use Rattle.domain.specs.declared.refusal.Refusal.the-variants.{EmptySet, SeveralConstructors, TooMany, Unknown, NoConclusion}
 use Rattle.overloads.specs.declared.regular.Codes.{Codes}
 use Rattle.overloads.specs.declared.regular.ConclusionRule.{ConclusionRule}
 use Rattle.overloads.specs.declared.regular.ConclusionRule.the-variants.{ArgumentType, Scalar, Frexp, Modf, U32, I32, Vec2F, Vec4F, Vec4I, Vec4U}
@@ -33,8 +33,8 @@ use Rattle.overloads.specs.declared.regular.RegularAnswer.{RegularAnswer
 use Rattle.overloads.specs.declared.regular.RegularAnswer.the-variants as regular
 use Rattle.overloads.specs.declared.rule.RuleAnswer.{RuleAnswer}
 use Rattle.overloads.specs.declared.rule.RuleAnswer.the-variants as rule
-use Rattle.overloads.specs.declared.type_code.CodeAnswer.{CodeAnswer}
-use Rattle.overloads.specs.declared.type_code.CodeAnswer.the-variants as code
+use Rattle.domain.specs.declared.type_code.CodeAnswer.{CodeAnswer}
+use Rattle.domain.specs.declared.type_code.CodeAnswer.the-variants as code
 
 -- the argument types: each constructor in turn, over each scalar in turn
 abbrev pub pairs : List ℕ → List ℕ → List ℕ

@@ -5,12 +5,12 @@ use mathlib.Core.List.{List, [], _∷_}
 use Prim.Native.Nat.{ℕ}
 use lib.Dec.{leb, ltb}
 use lib.ListN.{length, take, getD}
-use Rattle.overloads.specs.Mask.{choose, both, every}
-use Rattle.overloads.specs.Domain.{value?, known?, isAbstract}
+use Rattle.domain.specs.Mask.{choose, both, every}
+use Rattle.domain.specs.Domain.{value?, known?, isAbstract}
 use Rattle.overloads.specs.Signature.{Signature, takes, concrete}
-use Rattle.overloads.specs.Constructor.{constructorOf}
-use Rattle.overloads.specs.TypeCode.{predeclaredCode}
-use Rattle.overloads.specs.declared.refusal.Refusal.the-variants.{TooMany, Unknown}
+use Rattle.domain.specs.Constructor.{constructorOf}
+use Rattle.domain.specs.TypeCode.{predeclaredCode}
+use Rattle.domain.specs.declared.refusal.Refusal.the-variants.{TooMany, Unknown}
 use Rattle.overloads.specs.declared.rule.Rule.{Rule}
 use Rattle.overloads.specs.declared.rule.RuleAnswer.{RuleAnswer}
 use Rattle.overloads.specs.declared.rule.RuleAnswer.the-variants as answer
@@ -18,11 +18,11 @@ use Rattle.overloads.specs.declared.rule.Keep.{Keep}
 use Rattle.overloads.specs.declared.rule.Keep.the-variants.{Argument, Concrete}
 use Rattle.overloads.specs.declared.rule.Predeclared.{Predeclared}
 use Rattle.overloads.specs.declared.rule.Predeclared.the-variants.{Frexp, Modf}
-use Rattle.overloads.specs.declared.constructor_set.ConstructorSize.{ConstructorSize}
-use Rattle.overloads.specs.declared.constructor_set.ConstructorAnswer.{ConstructorAnswer}
-use Rattle.overloads.specs.declared.constructor_set.ConstructorAnswer.the-variants as constructor
-use Rattle.overloads.specs.declared.type_code.CodeAnswer.{CodeAnswer}
-use Rattle.overloads.specs.declared.type_code.CodeAnswer.the-variants as code
+use Rattle.domain.specs.declared.constructor_set.ConstructorSize.{ConstructorSize}
+use Rattle.domain.specs.declared.constructor_set.ConstructorAnswer.{ConstructorAnswer}
+use Rattle.domain.specs.declared.constructor_set.ConstructorAnswer.the-variants as constructor
+use Rattle.domain.specs.declared.type_code.CodeAnswer.{CodeAnswer}
+use Rattle.domain.specs.declared.type_code.CodeAnswer.the-variants as code
 
 -- the most arguments of a rule
 abbrev pub mostArguments : ℕ

@@ -3,9 +3,6 @@
 
 ghost use mathlib.Core.Path.{_≡_};
 ghost use Rattle.overloads.specs.AnyOverloadSet.{ofRegular, ofList, anyEmpty, anyCount, anyArg, anyConcrete, anyPreferred, anyListing, anyAllowed, anyRegular, anyList, alone};
-use crate::answer::CountAnswer;
-use crate::answer::Test;
-use crate::answer::Verdict;
 use crate::list::ChosenAnswer;
 use crate::list::List;
 use crate::list::ListAnswer;
@@ -15,6 +12,9 @@ use crate::regular::Regular;
 use crate::regular::RegularAnswer;
 use crate::rule::Rule;
 use crate::rule::RuleAnswer;
+use domain::CountAnswer;
+use domain::Test;
+use domain::Verdict;
 
 pub struct AnyOverloadSet {
     pub kind: SetKind,

@@ -3,17 +3,17 @@
 ghost use mathlib.Core.Path.{_≡_};
 ghost use lib.ListN.{take};
 ghost use Rattle.overloads.specs.Expansion.{expanded};
-use crate::answer::CountAnswer;
-use crate::answer::Verdict;
 use crate::list::List;
 use crate::list::ListAnswer;
 use crate::list::MOST_RULES;
 use crate::list::accepted;
 use crate::list::full_mask;
 use crate::list::refused;
-use crate::refusal::Refusal;
 use crate::regular::Regular;
 use crate::rule::Rule;
+use domain::CountAnswer;
+use domain::Refusal;
+use domain::Verdict;
 
 // The List of a Regular set's rules. Refused as the set is, then 3 for more than 63 rules, then 13 where one has no conclusion.
 pub fn expand(set: Regular) -> ListAnswer

@@ -5,9 +5,9 @@ ghost use mathlib.Core.Path.{_≡_};
 ghost use lib.ListN.{replicate};
 ghost use Rattle.overloads.specs.Rule.{blankRule};
 ghost use Rattle.overloads.specs.Listing.{refusedListing, refusedTypes};
-use crate::answer::CountAnswer;
-use crate::refusal::Refusal;
 use crate::rule::Rule;
+use domain::CountAnswer;
+use domain::Refusal;
 
 // How many rules there are, or the refusal; beside it the rules, in order.
 pub struct Listing {

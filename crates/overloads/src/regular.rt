@@ -6,30 +6,30 @@
 ghost use mathlib.Core.Path.{_≡_};
 ghost use mathlib.Core.List.{map};
 ghost use Prim.Native.Nat.{_+_, _*_, _<_, _≤_};
-ghost use Rattle.overloads.specs.Mask.{bits};
+ghost use Rattle.domain.specs.Mask.{bits};
 ghost use Rattle.overloads.specs.Regular.{Known, regularVerdict, regularEmpty, regularCount, regularArg, regularConcrete, regularPreferred, regularListing, regularAllowed, emptySet?, narrowed, concreteSet, reachedScalars, concludedOf, ruleFor, codesOf, codesFound, listedRules, RowFits, put};
-use crate::answer::CountAnswer;
-use crate::answer::Test;
-use crate::answer::Verdict;
-use crate::constructor_set::Constructor;
-use crate::constructor_set::ConstructorSet;
 use crate::listing::AllowedArgs;
 use crate::listing::Listing;
 use crate::listing::no_codes;
 use crate::listing::no_listing;
 use crate::listing::no_rules;
 use crate::listing::no_types;
-use crate::refusal::Refusal;
 use crate::rule::MOST_ARGUMENTS;
 use crate::rule::Rule;
 use crate::rule::RuleAnswer;
-use crate::scalar_set::Scalar;
-use crate::scalar_set::ScalarSet;
-use crate::type_code::CodeAnswer;
-use crate::type_code::LAST_CODE;
-use crate::type_code::TypeParts;
-use crate::type_code::VALUES;
-use crate::type_code::code_of;
+use domain::CodeAnswer;
+use domain::Constructor;
+use domain::ConstructorSet;
+use domain::CountAnswer;
+use domain::LAST_CODE;
+use domain::Refusal;
+use domain::Scalar;
+use domain::ScalarSet;
+use domain::Test;
+use domain::TypeParts;
+use domain::VALUES;
+use domain::Verdict;
+use domain::code_of;
 
 pub struct Regular {
     // The number of arguments in the rules.

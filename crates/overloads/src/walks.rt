@@ -3,7 +3,6 @@
 ghost use mathlib.Core.Path.{_≡_};
 ghost use Rattle.overloads.specs.Listing.{acceptedListing};
 ghost use Rattle.overloads.specs.List.{Valid, kept, countOf, preferredOf, allowedOf, listing, entries};
-use crate::answer::CountAnswer;
 use crate::list::Chosen;
 use crate::list::ChosenAnswer;
 use crate::list::List;
@@ -12,8 +11,9 @@ use crate::listing::Listing;
 use crate::listing::no_codes;
 use crate::listing::no_rules;
 use crate::listing::no_types;
-use crate::refusal::Refusal;
 use crate::rule::Keep;
+use domain::CountAnswer;
+use domain::Refusal;
 
 // The members that pass a test: one walk for every step.
 pub fn filter(list: List, keep: Keep) -> List

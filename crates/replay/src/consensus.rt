@@ -3,10 +3,10 @@
 use crate::answers::NONE;
 use crate::answers::is_refusal;
 use crate::records::wide;
-use overloads::Base;
-use overloads::Scalar;
-use overloads::ScalarAnswer;
-use overloads::automatic_conversion_consensus;
+use domain::Base;
+use domain::Scalar;
+use domain::ScalarAnswer;
+use domain::automatic_conversion_consensus;
 
 // Whether the scalar, or the refusal, is the stored one.
 pub fn agrees(record: &[u8]) -> bool {

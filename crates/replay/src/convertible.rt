@@ -1,10 +1,10 @@
 // Conversion of a scalar. A record is the scalar, and the two bytes of the mask of those that it converts to.
 
 use crate::records::word;
-use overloads::Scalar;
-use overloads::ScalarSet;
-use overloads::Test;
-use overloads::automatically_converts_to;
+use domain::Scalar;
+use domain::ScalarSet;
+use domain::Test;
+use domain::automatically_converts_to;
 
 // Whether the mask is the stored one, and the single conversions say the same.
 pub fn agrees(record: &[u8]) -> bool {

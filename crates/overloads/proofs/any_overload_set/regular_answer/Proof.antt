@@ -1,7 +1,7 @@
 -- `regular_answer` meets its contract.
 -- Assumes nothing.
 use mathlib.Core.Path.{_≡_, ap}
-use Rattle.overloads.specs.declared.answer.Verdict.the-variants as verdict
+use Rattle.domain.specs.declared.answer.Verdict.the-variants as verdict
 use Rattle.overloads.specs.declared.any_overload_set.AnyOverloadSet.{AnyOverloadSet}
 use borrow.Author.Needs.{needs}
 use Rattle.overloads.proofs.any_overload_set.regular_answer.Statement.{statement}

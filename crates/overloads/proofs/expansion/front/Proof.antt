@@ -9,10 +9,10 @@ use lib.Seq.{sets}
 use borrow.Author.Needs.{needs}
 use Rattle.overloads.specs.Rule.{blankRule}
 use Rattle.overloads.specs.declared.rule.Rule.{Rule}
-use Rattle.overloads.proofs.Masks.{mapped-long}
+use Rattle.domain.proofs.Masks.{mapped-long}
 use Rattle.overloads.proofs.Records.{zeroRule}
 use Rattle.overloads.proofs.Prefixes.{next, ended}
-use Rattle.overloads.proofs.Fills.{fill-step, fill-end, filled-whole}
+use Rattle.domain.proofs.Fills.{fill-step, fill-end, filled-whole}
 use Rattle.overloads.proofs.expansion.front.Statement.{statement}
 use Rattle.overloads.proofs.expansion.front.Tie as tie
 

@@ -5,9 +5,9 @@ use native.Mathlib.Omega.{arith}
 use lib.ListN.{length, take, drop}
 use borrow.Author.Needs.{needs}
 use borrow.Author.Tests.{not-true, not-false}
-use Rattle.overloads.specs.Mask.{every}
+use Rattle.domain.specs.Mask.{every}
 use Rattle.overloads.specs.Rule.{knownRule}
-use Rattle.overloads.proofs.Masks.{mapped-long}
+use Rattle.domain.proofs.Masks.{mapped-long}
 use Rattle.overloads.proofs.Records.{zeroRule}
 use Rattle.overloads.proofs.Prefixes.{every-fails, every-next, every-ends}
 use Rattle.overloads.proofs.list.all_known.Statement.{statement}

@@ -8,12 +8,12 @@ use lib.ListN.{length, take, drop, length-set, length-map}
 use lib.Seq.{sets, length-take-le}
 use borrow.Author.Needs.{needs}
 use borrow.Author.Tests.{leb-true}
-use Rattle.overloads.specs.Mask.{padded}
+use Rattle.domain.specs.Mask.{padded}
 use Rattle.overloads.specs.Rule.{blankRule, signatureOf, ruleOf, shortRule}
 use Rattle.overloads.specs.declared.rule.Rule.{Rule}
-use Rattle.overloads.proofs.Fills.{filled, fill-step, fill-end}
+use Rattle.domain.proofs.Fills.{filled, fill-step, fill-end}
 use Rattle.overloads.proofs.Records.{zeroRule}
-use Rattle.overloads.proofs.Masks.{mapped-long}
+use Rattle.domain.proofs.Masks.{mapped-long}
 use Rattle.overloads.proofs.Prefixes.{next, ended, every-at}
 use Rattle.overloads.proofs.list.cleaned.Statement.{statement}
 use Rattle.overloads.proofs.list.cleaned.Tie as tie

@@ -3,7 +3,7 @@ use mathlib.Core.Path.{ap}
 use mathlib.Core.List.{List}
 use borrow.Author.Needs.{needs}
 use Rattle.overloads.specs.Listing.{refusedListing}
-use Rattle.overloads.specs.declared.answer.CountAnswer.the-variants.{Refused}
+use Rattle.domain.specs.declared.answer.CountAnswer.the-variants.{Refused}
 use Rattle.overloads.specs.declared.rule.Rule.{Rule}
 use Rattle.overloads.proofs.listing.no_listing.Statement.{statement}
 use Rattle.overloads.proofs.listing.no_listing.Tie as tie

@@ -4,7 +4,7 @@ use mathlib.Core.List.{List}
 use Prim.Native.Nat.{ℕ}
 use borrow.Author.Needs.{needs}
 use Rattle.overloads.specs.Listing.{refusedTypes}
-use Rattle.overloads.specs.declared.answer.CountAnswer.the-variants.{Refused}
+use Rattle.domain.specs.declared.answer.CountAnswer.the-variants.{Refused}
 use Rattle.overloads.proofs.listing.no_types.Statement.{statement}
 use Rattle.overloads.proofs.listing.no_types.Tie as tie
 

@@ -9,12 +9,12 @@ use lib.Dec.{ltb}
 use lib.ListN.{length}
 use borrow.Author.Needs.{needs}
 use borrow.Author.Tests.{not-true, not-false, le-leb, lt-leb}
-use Rattle.overloads.specs.Mask.{every, padded}
+use Rattle.domain.specs.Mask.{every, padded}
 use Rattle.overloads.specs.Rule.{blankRule, signatureOf, ruleOf, knownRule, shortRule}
 use Rattle.overloads.specs.List.{held, signatures, cleanList, acceptedList}
 use Rattle.overloads.specs.declared.list.List.{List}
 use Rattle.overloads.specs.declared.rule.Rule.{Rule}
-use Rattle.overloads.proofs.Masks.{mapped-long}
+use Rattle.domain.proofs.Masks.{mapped-long}
 use Rattle.overloads.proofs.Prefixes.{take-min}
 use Rattle.overloads.proofs.Verdicts.{checked-by}
 use Rattle.overloads.proofs.list.List.checked.Statement.{statement}

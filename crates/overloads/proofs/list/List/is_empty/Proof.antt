@@ -5,8 +5,8 @@ use native.Mathlib.Omega.{arith}
 use lib.ListN.{length}
 use borrow.Author.Needs.{needs}
 use Rattle.overloads.specs.List.{listEmpty, emptyOf}
-use Rattle.overloads.specs.declared.answer.Test.the-variants.{Refused}
-use Rattle.overloads.proofs.Masks.{mapped-long}
+use Rattle.domain.specs.declared.answer.Test.the-variants.{Refused}
+use Rattle.domain.proofs.Masks.{mapped-long}
 use Rattle.overloads.proofs.Lists.{listing-none}
 use Rattle.overloads.proofs.Verdicts.{on-refused, on-accepted, tested-some}
 use Rattle.overloads.proofs.list.List.is_empty.Statement.{statement}

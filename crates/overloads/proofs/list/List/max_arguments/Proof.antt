@@ -3,8 +3,8 @@ use mathlib.Core.Path.{_≡_, ap, _∙_}
 use lib.ListN.{length}
 use borrow.Author.Needs.{needs}
 use Rattle.overloads.specs.List.{listCount, countOf}
-use Rattle.overloads.specs.declared.answer.CountAnswer.the-variants.{Refused}
-use Rattle.overloads.proofs.Masks.{mapped-long}
+use Rattle.domain.specs.declared.answer.CountAnswer.the-variants.{Refused}
+use Rattle.domain.proofs.Masks.{mapped-long}
 use Rattle.overloads.proofs.Verdicts.{on-refused, on-accepted, tested-valid, tested-listing}
 use Rattle.overloads.proofs.list.List.max_arguments.Statement.{statement}
 use Rattle.overloads.proofs.list.List.max_arguments.Tie as tie

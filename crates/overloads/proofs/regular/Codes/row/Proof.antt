@@ -8,11 +8,11 @@ use lib.Count.{trailingZeros}
 use lib.Dec.{lit≤}
 use lib.ListN.{length, length-set, length-map}
 use lib.Seq.{sets}
-use Rattle.overloads.specs.Mask.{upTo, bits}
+use Rattle.domain.specs.Mask.{upTo, bits}
 use Rattle.overloads.specs.Regular.{put}
-use Rattle.overloads.proofs.Masks.{Turn, trailing-lt}
-use Rattle.overloads.proofs.Bits.{bits-turn, bits-first, bits-none}
-use Rattle.overloads.proofs.Fills.{fill-next}
+use Rattle.domain.proofs.Masks.{Turn, trailing-lt}
+use Rattle.domain.proofs.Bits.{bits-turn, bits-first, bits-none}
+use Rattle.domain.proofs.Fills.{fill-next}
 use Rattle.overloads.proofs.regular.Codes.row.Statement.{statement}
 use Rattle.overloads.proofs.regular.Codes.row.Tie as tie
 

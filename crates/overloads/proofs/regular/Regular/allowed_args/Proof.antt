@@ -8,7 +8,7 @@ use lib.ListN.{length}
 use borrow.Author.Tests.{le-ltb, lt-ltb}
 use Rattle.overloads.specs.Listing.{acceptedTypes}
 use Rattle.overloads.specs.Regular.{regularAllowed}
-use Rattle.overloads.specs.declared.answer.CountAnswer.the-variants.{Count}
+use Rattle.domain.specs.declared.answer.CountAnswer.the-variants.{Count}
 use Rattle.overloads.proofs.Regulars.{accepted-known}
 use Rattle.overloads.proofs.Listings.{codes-few, found-count, found-codes}
 use borrow.Author.Needs.{needs}

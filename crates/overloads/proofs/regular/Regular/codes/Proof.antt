@@ -7,11 +7,11 @@ use native.Mathlib.Omega.{arith}
 use lib.Count.{trailingZeros}
 use lib.Dec.{lit≤}
 use lib.ListN.{length, replicate, length-replicate, length-append, length-map}
-use Rattle.overloads.specs.Mask.{upTo, bits}
+use Rattle.domain.specs.Mask.{upTo, bits}
 use Rattle.overloads.specs.Regular.{pairs, codesOf, codesFound, put}
 use Rattle.overloads.specs.declared.regular.Codes.{Codes}
-use Rattle.overloads.proofs.Masks.{Turn, trailing-lt}
-use Rattle.overloads.proofs.Bits.{bits-turn, bits-first, bits-none}
+use Rattle.domain.proofs.Masks.{Turn, trailing-lt}
+use Rattle.domain.proofs.Bits.{bits-turn, bits-first, bits-none}
 use Rattle.overloads.proofs.Regulars.{pairs-most}
 use Rattle.overloads.proofs.Puts.{put-again, put-none, put-first, put-length, put-count}
 use Rattle.overloads.proofs.regular.Regular.codes.Statement.{statement}

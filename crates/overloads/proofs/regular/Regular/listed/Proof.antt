@@ -7,18 +7,18 @@ use Prim.Native.Nat.{ℕ, _+_, _-_, _≤_, _<_}
 use native.Mathlib.Omega.{arith}
 use lib.ListN.{length, getD, drop, set, length-replicate, length-set}
 use lib.Seq.{sets}
-use Rattle.overloads.specs.Mask.{every, padded}
+use Rattle.domain.specs.Mask.{every, padded}
 use Rattle.overloads.specs.Rule.{blankRule, ruleOf}
 use Rattle.overloads.specs.Listing.{refusedListing}
 use Rattle.overloads.specs.Regular.{codesOf, regularRules, signatureFor, concludes, allConclude, ruleFor}
-use Rattle.overloads.specs.declared.refusal.Refusal.{Refusal}
+use Rattle.domain.specs.declared.refusal.Refusal.{Refusal}
 use Rattle.overloads.specs.declared.regular.Regular.{Regular}
 use Rattle.overloads.specs.declared.rule.Rule.{Rule}
 use Rattle.overloads.specs.declared.rule.RuleAnswer.{RuleAnswer}
 use Rattle.overloads.specs.declared.rule.RuleAnswer.the-variants as answer
 use Rattle.overloads.proofs.Conclusions.{code-below, rule-refused, rule-concluded}
 use Rattle.overloads.proofs.Listings.{codes-few, found-count, found-long, found-at, rules-next, concludes-next, concludes-not, listing-starts, listing-ends}
-use Rattle.overloads.proofs.Fills.{fill-step}
+use Rattle.domain.proofs.Fills.{fill-step}
 use borrow.Author.Needs.{needs}
 use Rattle.overloads.proofs.regular.Regular.listed.Statement.{statement}
 use Rattle.overloads.proofs.regular.Regular.listed.Tie as tie

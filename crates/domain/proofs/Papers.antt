@@ -1,0 +1,206 @@
+-- The paper's numbers determine each answer: two answers of one kind with the same number, place and values are equal. Shown by a
+-- function that reads the answer back. Assumes nothing.
+use mathlib.Core.Path.{_≡_, refl, sym, ap, _∙_}
+use mathlib.Core.Bool.{Bool, true, false}
+use mathlib.Core.List.{List, [], _∷_}
+use Prim.Native.Nat.{ℕ, _≤_, _<_}
+use native.Mathlib.Omega.{arith}
+use lib.Dec.{eqb}
+use lib.ListN.{getD}
+use borrow.Author.Tests.{ne-eqb}
+use Rattle.domain.specs.Mask.{choose}
+use Rattle.domain.specs.Refusal.{numberOf, placeOf}
+use Rattle.domain.specs.Paper.{Paper, verdictPaper, testPaper, countPaper, scalarPaper, constructorPaper, codePaper, leafPaper, combinationPaper, sizePaper, partsPaper}
+use Rattle.domain.specs.declared.refusal.Refusal.{Refusal}
+use Rattle.domain.specs.declared.refusal.Refusal.the-variants.{EmptySet, SeveralConstructors, TooMany, NoSuchArgument, WrongCount, NoRuleLeft, Unknown, IllFormed, TooLarge, NoRoom, NothingToCombine, NoConsensus, NoConclusion}
+use Rattle.domain.specs.declared.answer.Verdict.{Verdict}
+use Rattle.domain.specs.declared.answer.Verdict.the-variants as verdict
+use Rattle.domain.specs.declared.answer.Test.{Test}
+use Rattle.domain.specs.declared.answer.Test.the-variants as test
+use Rattle.domain.specs.declared.answer.CountAnswer.{CountAnswer}
+use Rattle.domain.specs.declared.answer.CountAnswer.the-variants as count
+use Rattle.domain.specs.declared.scalar_set.ScalarAnswer.{ScalarAnswer}
+use Rattle.domain.specs.declared.scalar_set.ScalarAnswer.the-variants as scalar
+use Rattle.domain.specs.declared.constructor_set.ConstructorSize.{ConstructorSize}
+use Rattle.domain.specs.declared.constructor_set.ConstructorSize.the-variants as zone
+use Rattle.domain.specs.declared.constructor_set.SizeAnswer.{SizeAnswer}
+use Rattle.domain.specs.declared.constructor_set.SizeAnswer.the-variants as size
+use Rattle.domain.specs.declared.constructor_set.ConstructorAnswer.{ConstructorAnswer}
+use Rattle.domain.specs.declared.constructor_set.ConstructorAnswer.the-variants as constructor
+use Rattle.domain.specs.declared.type_code.TypeParts.{TypeParts}
+use Rattle.domain.specs.declared.type_code.TypeParts.the-variants as part
+use Rattle.domain.specs.declared.type_code.PartsAnswer.{PartsAnswer}
+use Rattle.domain.specs.declared.type_code.PartsAnswer.the-variants as parts
+use Rattle.domain.specs.declared.type_code.CodeAnswer.{CodeAnswer}
+use Rattle.domain.specs.declared.type_code.CodeAnswer.the-variants as code
+use Rattle.domain.specs.declared.type_code.LeafScalar.{LeafScalar}
+use Rattle.domain.specs.declared.type_code.LeafScalar.the-variants as leaf
+use Rattle.domain.specs.declared.conversion.Combination.{Combination}
+use Rattle.domain.specs.declared.conversion.Combination.the-variants as combined
+
+-- ---- refusals
+
+-- the refusal of a number and a place
+unfoldable pub refusalOf : ℕ → ℕ → Refusal
+refusalOf n p =
+    choose (eqb n 1) (EmptySet p)
+    (choose (eqb n 2) SeveralConstructors
+    (choose (eqb n 3) TooMany
+    (choose (eqb n 4) (NoSuchArgument p)
+    (choose (eqb n 5) (WrongCount p)
+    (choose (eqb n 6) (NoRuleLeft p)
+    (choose (eqb n 7) (Unknown p)
+    (choose (eqb n 8) (IllFormed p)
+    (choose (eqb n 9) (TooLarge p)
+    (choose (eqb n 10) (NoRoom p)
+    (choose (eqb n 11) NothingToCombine
+    (choose (eqb n 12) (NoConsensus p)
+    NoConclusion)))))))))))
+
+refused-back : (why : Refusal) → refusalOf (numberOf why) (placeOf why) ≡ why
+unfolding refusalOf
+refused-back (EmptySet p) = refl
+refused-back SeveralConstructors = refl
+refused-back TooMany = refl
+refused-back (NoSuchArgument p) = refl
+refused-back (WrongCount p) = refl
+refused-back (NoRuleLeft p) = refl
+refused-back (Unknown p) = refl
+refused-back (IllFormed p) = refl
+refused-back (TooLarge p) = refl
+refused-back (NoRoom p) = refl
+refused-back NothingToCombine = refl
+refused-back (NoConsensus p) = refl
+refused-back NoConclusion = refl
+
+not-zero : (why : Refusal) → eqb (numberOf why) 0 ≡ false
+not-zero (EmptySet p) = refl
+not-zero SeveralConstructors = refl
+not-zero TooMany = refl
+not-zero (NoSuchArgument p) = refl
+not-zero (WrongCount p) = refl
+not-zero (NoRuleLeft p) = refl
+not-zero (Unknown p) = refl
+not-zero (IllFormed p) = refl
+not-zero (TooLarge p) = refl
+not-zero (NoRoom p) = refl
+not-zero NothingToCombine = refl
+not-zero (NoConsensus p) = refl
+not-zero NoConclusion = refl
+
+pub refusal-one : (a b : Refusal) → numberOf a ≡ numberOf b → placeOf a ≡ placeOf b → a ≡ b
+refusal-one a b n p = sym (refused-back a) ∙ ap (λ (k : ℕ). refusalOf k (placeOf a)) n ∙ ap (refusalOf (numberOf b)) p ∙ refused-back b
+
+-- ---- an answer that is read back is the answer
+
+-- number 0 reads the values, any other number is a refusal
+unfoldable pub read : {A : Type 0} → (List ℕ → A) → (Refusal → A) → Paper → A
+read f g p = choose (eqb (p .number) 0) (f (p .values)) (g (refusalOf (p .number) (p .place)))
+
+module _ {A : Type 0} (f : List ℕ → A) (g : Refusal → A) where
+  pub reads-refused : (why : Refusal) (vs : List ℕ) → read f g (record { number = numberOf why; place = placeOf why; values = vs }) ≡ g why
+  unfolding read
+  reads-refused why vs = ap (λ (b : Bool). choose b (f vs) (g (refusalOf (numberOf why) (placeOf why)))) (not-zero why) ∙ ap g (refused-back why)
+
+pub one-to-one : {A : Type 0} (paper : A → Paper) (unpaper : Paper → A) → ((a : A) → unpaper (paper a) ≡ a) → (a b : A) → paper a ≡ paper b → a ≡ b
+one-to-one paper unpaper back a b e = sym (back a) ∙ ap unpaper e ∙ back b
+
+verdict-back : (a : Verdict) → read (λ vs. verdict.Accepted) verdict.Refused (verdictPaper a) ≡ a
+unfolding read
+verdict-back verdict.Accepted = refl
+verdict-back (verdict.Refused why) = reads-refused (λ vs. verdict.Accepted) verdict.Refused why []
+
+pub verdict-one : (a b : Verdict) → verdictPaper a ≡ verdictPaper b → a ≡ b
+verdict-one = one-to-one verdictPaper (read (λ vs. verdict.Accepted) verdict.Refused) verdict-back
+
+test-back : (a : Test) → read (λ vs. choose (eqb (getD vs 0 0) 1) test.Yes test.No) test.Refused (testPaper a) ≡ a
+unfolding read
+test-back test.Yes = refl
+test-back test.No = refl
+test-back (test.Refused why) = reads-refused (λ vs. choose (eqb (getD vs 0 0) 1) test.Yes test.No) test.Refused why (255 ∷ [])
+
+pub test-one : (a b : Test) → testPaper a ≡ testPaper b → a ≡ b
+test-one = one-to-one testPaper (read (λ vs. choose (eqb (getD vs 0 0) 1) test.Yes test.No) test.Refused) test-back
+
+count-back : (a : CountAnswer) → read (λ vs. count.Count (getD vs 0 0)) count.Refused (countPaper a) ≡ a
+unfolding read
+count-back (count.Count n) = refl
+count-back (count.Refused why) = reads-refused (λ vs. count.Count (getD vs 0 0)) count.Refused why (255 ∷ [])
+
+pub count-one : (a b : CountAnswer) → countPaper a ≡ countPaper b → a ≡ b
+count-one = one-to-one countPaper (read (λ vs. count.Count (getD vs 0 0)) count.Refused) count-back
+
+scalar-back : (a : ScalarAnswer) → read (λ vs. scalar.Scalar (record { 0 = getD vs 0 0 })) scalar.Refused (scalarPaper a) ≡ a
+unfolding read
+scalar-back (scalar.Scalar s) = refl
+scalar-back (scalar.Refused why) = reads-refused (λ vs. scalar.Scalar (record { 0 = getD vs 0 0 })) scalar.Refused why (255 ∷ [])
+
+pub scalar-one : (a b : ScalarAnswer) → scalarPaper a ≡ scalarPaper b → a ≡ b
+scalar-one = one-to-one scalarPaper (read (λ vs. scalar.Scalar (record { 0 = getD vs 0 0 })) scalar.Refused) scalar-back
+
+constructor-back : (a : ConstructorAnswer) → read (λ vs. constructor.Constructor (record { 0 = getD vs 0 0 })) constructor.Refused (constructorPaper a) ≡ a
+unfolding read
+constructor-back (constructor.Constructor k) = refl
+constructor-back (constructor.Refused why) = reads-refused (λ vs. constructor.Constructor (record { 0 = getD vs 0 0 })) constructor.Refused why (255 ∷ [])
+
+pub constructor-one : (a b : ConstructorAnswer) → constructorPaper a ≡ constructorPaper b → a ≡ b
+constructor-one = one-to-one constructorPaper (read (λ vs. constructor.Constructor (record { 0 = getD vs 0 0 })) constructor.Refused) constructor-back
+
+code-back : (a : CodeAnswer) → read (λ vs. code.Code (getD vs 0 0)) code.Refused (codePaper a) ≡ a
+unfolding read
+code-back (code.Code t) = refl
+code-back (code.Refused why) = reads-refused (λ vs. code.Code (getD vs 0 0)) code.Refused why (255 ∷ [])
+
+pub code-one : (a b : CodeAnswer) → codePaper a ≡ codePaper b → a ≡ b
+code-one = one-to-one codePaper (read (λ vs. code.Code (getD vs 0 0)) code.Refused) code-back
+
+size-back : (a : SizeAnswer) → read (λ vs. size.Size (choose (eqb (getD vs 0 0) 0) zone.Scalar (choose (eqb (getD vs 0 0) 1) (zone.Vector (getD vs 1 0)) (zone.Matrix (getD vs 1 0) (getD vs 2 0))))) size.Refused (sizePaper a) ≡ a
+unfolding read
+size-back (size.Size zone.Scalar) = refl
+size-back (size.Size (zone.Vector n)) = refl
+size-back (size.Size (zone.Matrix c r)) = refl
+size-back (size.Refused why) = reads-refused (λ vs. size.Size (choose (eqb (getD vs 0 0) 0) zone.Scalar (choose (eqb (getD vs 0 0) 1) (zone.Vector (getD vs 1 0)) (zone.Matrix (getD vs 1 0) (getD vs 2 0))))) size.Refused why (255 ∷ 255 ∷ 255 ∷ [])
+
+pub size-one : (a b : SizeAnswer) → sizePaper a ≡ sizePaper b → a ≡ b
+size-one = one-to-one sizePaper (read (λ vs. size.Size (choose (eqb (getD vs 0 0) 0) zone.Scalar (choose (eqb (getD vs 0 0) 1) (zone.Vector (getD vs 1 0)) (zone.Matrix (getD vs 1 0) (getD vs 2 0))))) size.Refused) size-back
+
+parts-back : (a : PartsAnswer) → read (λ vs. parts.Parts (choose (eqb (getD vs 0 0) 0) (part.Value (record { 0 = getD vs 1 0 }) (record { 0 = getD vs 2 0 })) (choose (eqb (getD vs 0 0) 1) part.Other (choose (eqb (getD vs 0 0) 2) (part.Modf (record { 0 = getD vs 1 0 }) (record { 0 = getD vs 2 0 })) (part.Frexp (record { 0 = getD vs 1 0 }) (record { 0 = getD vs 2 0 })))))) parts.Refused (partsPaper a) ≡ a
+unfolding read
+parts-back (parts.Parts (part.Value k s)) = refl
+parts-back (parts.Parts part.Other) = refl
+parts-back (parts.Parts (part.Modf k s)) = refl
+parts-back (parts.Parts (part.Frexp k s)) = refl
+parts-back (parts.Refused why) = reads-refused (λ vs. parts.Parts (choose (eqb (getD vs 0 0) 0) (part.Value (record { 0 = getD vs 1 0 }) (record { 0 = getD vs 2 0 })) (choose (eqb (getD vs 0 0) 1) part.Other (choose (eqb (getD vs 0 0) 2) (part.Modf (record { 0 = getD vs 1 0 }) (record { 0 = getD vs 2 0 })) (part.Frexp (record { 0 = getD vs 1 0 }) (record { 0 = getD vs 2 0 })))))) parts.Refused why (255 ∷ 255 ∷ 255 ∷ [])
+
+pub parts-one : (a b : PartsAnswer) → partsPaper a ≡ partsPaper b → a ≡ b
+parts-one = one-to-one partsPaper (read (λ vs. parts.Parts (choose (eqb (getD vs 0 0) 0) (part.Value (record { 0 = getD vs 1 0 }) (record { 0 = getD vs 2 0 })) (choose (eqb (getD vs 0 0) 1) part.Other (choose (eqb (getD vs 0 0) 2) (part.Modf (record { 0 = getD vs 1 0 }) (record { 0 = getD vs 2 0 })) (part.Frexp (record { 0 = getD vs 1 0 }) (record { 0 = getD vs 2 0 })))))) parts.Refused) parts-back
+
+-- ---- a scalar or none: of the answers that the promises permit, whose scalars are known
+
+pub LeafKnown : LeafScalar → Type 0
+LeafKnown (leaf.Scalar s) = s .0 < 12
+LeafKnown leaf.Nothing = Unit
+LeafKnown (leaf.Refused why) = Unit
+
+leaf-back : (a : LeafScalar) → LeafKnown a → read (λ vs. choose (eqb (getD vs 0 0) 255) leaf.Nothing (leaf.Scalar (record { 0 = getD vs 0 0 }))) leaf.Refused (leafPaper a) ≡ a
+unfolding read LeafKnown
+leaf-back (leaf.Scalar s) k = ap (λ (b : Bool). choose b leaf.Nothing (leaf.Scalar s)) (ne-eqb (s .0) 255 (λ e. absurd (omega arith)))
+leaf-back leaf.Nothing k = refl
+leaf-back (leaf.Refused why) k = reads-refused (λ vs. choose (eqb (getD vs 0 0) 255) leaf.Nothing (leaf.Scalar (record { 0 = getD vs 0 0 }))) leaf.Refused why (255 ∷ [])
+
+pub leaf-one : (a b : LeafScalar) → LeafKnown a → LeafKnown b → leafPaper a ≡ leafPaper b → a ≡ b
+leaf-one a b j k e = sym (leaf-back a j) ∙ ap (read (λ vs. choose (eqb (getD vs 0 0) 255) leaf.Nothing (leaf.Scalar (record { 0 = getD vs 0 0 }))) leaf.Refused) e ∙ leaf-back b k
+
+pub CombinationKnown : Combination → Type 0
+CombinationKnown (combined.Scalar s) = s .0 < 12
+CombinationKnown combined.Nothing = Unit
+CombinationKnown (combined.Refused why) = Unit
+
+combination-back : (a : Combination) → CombinationKnown a → read (λ vs. choose (eqb (getD vs 0 0) 255) combined.Nothing (combined.Scalar (record { 0 = getD vs 0 0 }))) combined.Refused (combinationPaper a) ≡ a
+unfolding read CombinationKnown
+combination-back (combined.Scalar s) k = ap (λ (b : Bool). choose b combined.Nothing (combined.Scalar s)) (ne-eqb (s .0) 255 (λ e. absurd (omega arith)))
+combination-back combined.Nothing k = refl
+combination-back (combined.Refused why) k = reads-refused (λ vs. choose (eqb (getD vs 0 0) 255) combined.Nothing (combined.Scalar (record { 0 = getD vs 0 0 }))) combined.Refused why (255 ∷ [])
+
+pub combination-one : (a b : Combination) → CombinationKnown a → CombinationKnown b → combinationPaper a ≡ combinationPaper b → a ≡ b
+combination-one a b j k e = sym (combination-back a j) ∙ ap (read (λ vs. choose (eqb (getD vs 0 0) 255) combined.Nothing (combined.Scalar (record { 0 = getD vs 0 0 }))) combined.Refused) e ∙ combination-back b k

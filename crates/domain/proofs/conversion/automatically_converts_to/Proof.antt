@@ -1,0 +1,32 @@
+-- `automatically_converts_to` meets its contract.
+-- Assumes nothing.
+use mathlib.Core.Path.{sym, _∙_}
+use borrow.Author.Tests.{lt-ltb, le-ltb}
+use Rattle.domain.proofs.Scalars.{known-converts}
+use Rattle.domain.specs.Conversion.{convertsTo}
+use borrow.Author.Needs.{needs}
+use Rattle.domain.proofs.conversion.automatically_converts_to.Statement.{statement}
+use Rattle.domain.proofs.conversion.automatically_converts_to.Tie as tie
+
+returns : tie.Need-returns
+unfolding convertsTo
+returns c = simp (le-ltb _ _ (c .if1 .taken))
+
+returns-2 : tie.Need-returns-2
+unfolding convertsTo
+returns-2 c = simp (lt-ltb _ _ (c .before .before .if1 .left), le-ltb _ _ (c .if2 .taken))
+
+scalar-converts-requires : tie.Need-scalar-converts-requires
+scalar-converts-requires c κs = search needs
+
+returns-3 : tie.Need-returns-3
+unfolding convertsTo
+returns-3 c = simp (lt-ltb _ _ (c .before .before .before .before .if1 .left), lt-ltb _ _ (c .before .before .if2 .left), sym (known-converts _ _ (c .before .before .before .before .if1 .left) (c .before .before .if2 .left)) ∙ sym (c .before .scalar-converts .ensures) ∙ c .if3 .taken)
+
+returns-4 : tie.Need-returns-4
+unfolding convertsTo
+returns-4 c = simp (lt-ltb _ _ (c .before .before .before .before .if1 .left), lt-ltb _ _ (c .before .before .if2 .left), sym (known-converts _ _ (c .before .before .before .before .if1 .left) (c .before .before .if2 .left)) ∙ sym (c .before .scalar-converts .ensures) ∙ c .if3 .left)
+
+pub automatically-converts-to-spec : {M : Type 1} → statement M
+automatically-converts-to-spec =
+    tie.close (tie.spec returns returns-2 scalar-converts-requires returns-3 returns-4)

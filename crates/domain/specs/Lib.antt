@@ -1,0 +1,9 @@
+pub mod Mask
+pub mod Domain
+pub mod Refusal
+pub mod OneBits
+pub mod Scalar
+pub mod TypeCode
+pub mod Constructor
+pub mod Conversion
+pub mod Paper
