@@ -21,3 +21,9 @@ pub mod Preferred
 pub mod RegularRules
 pub mod Agreement
 pub mod SetPapers
+pub mod Runs
+pub mod Places
+pub mod ListsOf
+pub mod Indices
+pub mod Ranks
+pub mod Database

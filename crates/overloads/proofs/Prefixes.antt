@@ -44,7 +44,7 @@ module _ {A : Type 0} (d : A) (xs : List A) (n i : ℕ) (l : n ≤ length xs) wh
     pub every-ends : n ≤ i → true ≡ every p (take n xs)
     every-ends h = sym (ap (every p) (ended h)) ∙ left
 
-both-true : (a b : Bool) → both a b ≡ true → (a ≡ true) × (b ≡ true)
+pub both-true : (a b : Bool) → both a b ≡ true → (a ≡ true) × (b ≡ true)
 both-true true b e = (refl, e)
 both-true false b e = let z : _≡_ {A = ℕ} 0 1 = cc in absurd (omega arith)
 

@@ -7,4 +7,6 @@ pub mod Regular
 pub mod Expansion
 pub mod Agreement
 pub mod AnyOverloadSet
+pub mod Sequences
+pub mod Functions
 pub mod SetPaper

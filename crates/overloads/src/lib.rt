@@ -5,22 +5,32 @@
 
 mod any_overload_set;
 mod expansion;
+mod full_listing;
 mod list;
+mod listed_rules;
 mod listing;
+mod mathfunction;
 mod regular;
 mod rule;
+mod utils;
 mod walks;
 
 pub use any_overload_set::AnyAnswer;
 pub use any_overload_set::AnyOverloadSet;
 pub use any_overload_set::SetKind;
 pub use expansion::expand;
+pub use full_listing::rule_at;
 pub use list::Chosen;
 pub use list::ChosenAnswer;
 pub use list::List;
 pub use list::ListAnswer;
+pub use listed_rules::list_of;
 pub use listing::AllowedArgs;
 pub use listing::Listing;
+pub use mathfunction::FUNCTION_COUNT;
+pub use mathfunction::FunctionSet;
+pub use mathfunction::Listed;
+pub use mathfunction::function_set;
 pub use regular::ConclusionRule;
 pub use regular::Regular;
 pub use regular::RegularAnswer;

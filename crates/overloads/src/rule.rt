@@ -28,7 +28,7 @@ use domain::scalar_converts;
 pub const MOST_ARGUMENTS: u8 = 4;
 
 // What a field not in use holds.
-const UNUSED: u8 = 255;
+pub const UNUSED: u8 = 255;
 
 pub struct Rule {
     pub a0: u8,

@@ -1,8 +1,10 @@
 // The lists of stored answers, and the comparison that belongs to each.
 
+use crate::boundary;
 use crate::combine;
 use crate::consensus;
 use crate::convertible;
+use crate::handsets;
 use crate::named_sets;
 
 pub enum List {
@@ -10,6 +12,8 @@ pub enum List {
     Convertible,
     NamedSets,
     Consensus,
+    HandSets,
+    Boundary,
 }
 
 // Whether our answer to the record's question is the stored one. A record of another form than its list's does not agree.
@@ -19,5 +23,7 @@ pub fn agrees(list: List, record: &[u8]) -> bool {
         List::Convertible => convertible::agrees(record),
         List::NamedSets => named_sets::agrees(record),
         List::Consensus => consensus::agrees(record),
+        List::HandSets => handsets::agrees(record),
+        List::Boundary => boundary::agrees(record),
     }
 }

@@ -1,0 +1,34 @@
+-- The List of given rules from the parts that a loop leaves: the array that holds them, their number and a full mask.
+-- Assumes nothing.
+use mathlib.Core.Path.{_≡_, refl, ap, ap₂, _∙_}
+use mathlib.Core.Bool.{Bool, true}
+use mathlib.Core.List as L
+use mathlib.Core.List.{[], _∷_, map}
+use Prim.Native.Nat.{ℕ, suc, _+_, _-_, _*_, _/_, _%_, _^_, _≤_}
+use native.Mathlib.Nat.{pow-suc}
+use native.Mathlib.Omega.{arith}
+use lib.Dec.{eqb, leb}
+use lib.ListN.{length, replicate, length-map}
+use lib.Pow.{pow-pos}
+use lib.Seq.{take-at}
+use borrow.Author.Tests.{le-leb, leb-true}
+use Rattle.domain.specs.Mask.{choose, consIf, every, select, padded}
+use Rattle.overloads.specs.Signature.{Signature}
+use Rattle.overloads.specs.Rule.{mostArguments, blankRule, signatureOf, ruleOf}
+use Rattle.overloads.specs.List.{signatures, listing, cleanList, Valid}
+use Rattle.overloads.specs.Expansion.{listOf}
+use Rattle.overloads.specs.declared.list.List.{List}
+use Rattle.overloads.specs.declared.rule.Rule.{Rule}
+use Rattle.overloads.proofs.Records.{record-says}
+use Rattle.overloads.proofs.Prefixes.{both-true}
+
+module _ (rs : L.List Signature) where
+  -- an array that holds the rules, their number and a full mask are their List
+  pub list-built : {rules : L.List Rule} {n m : ℕ} → rules ≡ padded 63 blankRule (map ruleOf rs) → n ≡ length rs
+      → m ≡ choose (leb n 63) (2 ^ n - 1) 0 → length rs ≤ 63 → _≡_ {A = List} (record { rules = rules; len = n; members = m }) (listOf rs)
+  unfolding listOf
+  list-built {rules} {n} {m} a e f h =
+      let g : m ≡ 2 ^ length rs - 1 =
+      f ∙ ap (λ (k : ℕ). choose (leb k 63) (2 ^ k - 1) 0) e ∙ ap (λ (b : Bool). choose b (2 ^ length rs - 1) 0) (le-leb (length rs) 63 h) in
+      ap (λ (x : L.List Rule). record { rules = x; len = n; members = m }) a
+      ∙ ap₂ (λ (k q : ℕ). record { rules = padded 63 blankRule (map ruleOf rs); len = k; members = q }) e g

@@ -1,0 +1,111 @@
+// A set made by hand, as a record holds it: 0, then a Regular set's arity, the two masks of two bytes each and the conclusion; or 1,
+// then the rules of a List.
+
+use crate::records::word;
+use crate::rules::RULE_BYTES;
+use crate::rules::rules_of;
+use domain::ConstructorSet;
+use domain::Refusal;
+use domain::ScalarSet;
+use domain::Verdict;
+use overloads::AnyAnswer;
+use overloads::AnyOverloadSet;
+use overloads::ConclusionRule;
+use overloads::List;
+use overloads::ListAnswer;
+use overloads::Regular;
+
+// The bytes of a Regular set.
+const REGULAR_BYTES: usize = 7;
+
+// Whether the bytes have a Regular set's form.
+pub fn is_regular(bytes: &[u8]) -> bool {
+    if bytes.len() != REGULAR_BYTES {
+        return false;
+    }
+    if bytes[0] != 0 {
+        return false;
+    }
+    bytes[6] <= 9
+}
+
+// The set, or its refusal; 8 for bytes of another form.
+pub fn made(bytes: &[u8]) -> AnyAnswer {
+    if is_regular(bytes) {
+        return AnyAnswer {
+            answer: Verdict::Accepted,
+            set: AnyOverloadSet::from_regular(regular_of(bytes)),
+        };
+    }
+    if bytes.len() == 0 {
+        return ill_formed();
+    }
+    if bytes[0] != 1 {
+        return ill_formed();
+    }
+    if bytes.len() % RULE_BYTES != 1 {
+        return ill_formed();
+    }
+    any_of(list_of(&bytes[1..]))
+}
+
+// The Regular set; the empty one where the bytes are not as many.
+pub fn regular_of(bytes: &[u8]) -> Regular {
+    if bytes.len() != REGULAR_BYTES {
+        return Regular::EMPTY;
+    }
+    let arity = bytes[1];
+    let constructors = ConstructorSet(mask_at(bytes, 2));
+    let scalars = ScalarSet(mask_at(bytes, 4));
+    let conclude = conclusion_of(bytes[6]);
+    Regular {
+        arity: arity,
+        constructors: constructors,
+        scalars: scalars,
+        conclude: conclude,
+    }
+}
+
+// The mask whose two bytes start at `at`.
+fn mask_at(bytes: &[u8], at: usize) -> u16 {
+    word(bytes, at) as u16
+}
+
+// The conclusion of this number, in the order of the crate's.
+fn conclusion_of(number: u8) -> ConclusionRule {
+    match number {
+        0 => ConclusionRule::ArgumentType,
+        1 => ConclusionRule::Scalar,
+        2 => ConclusionRule::Frexp,
+        3 => ConclusionRule::Modf,
+        4 => ConclusionRule::U32,
+        5 => ConclusionRule::I32,
+        6 => ConclusionRule::Vec2F,
+        7 => ConclusionRule::Vec4F,
+        8 => ConclusionRule::Vec4I,
+        _ => ConclusionRule::Vec4U,
+    }
+}
+
+// The List of rules that stand one behind another.
+pub fn list_of(bytes: &[u8]) -> ListAnswer {
+    List::from_rules(rules_of(bytes), bytes.len() / RULE_BYTES)
+}
+
+// A List's answer as one of either kind.
+pub fn any_of(made: ListAnswer) -> AnyAnswer {
+    let verdict = made.answer;
+    let list = made.list;
+    AnyAnswer {
+        answer: verdict,
+        set: AnyOverloadSet::from_list(list),
+    }
+}
+
+// The answer to bytes that are no set.
+fn ill_formed() -> AnyAnswer {
+    AnyAnswer {
+        answer: Verdict::Refused(Refusal::IllFormed(0)),
+        set: AnyOverloadSet::from_regular(Regular::EMPTY),
+    }
+}

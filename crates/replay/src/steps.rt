@@ -1,0 +1,38 @@
+// The steps that a record takes on its set, two bytes each: an argument's index and its type, or 255 twice for the step that drops
+// rules with an abstract argument.
+
+use crate::answers::NONE;
+use crate::records::wide;
+use domain::Verdict;
+use overloads::AnyAnswer;
+use overloads::AnyOverloadSet;
+
+// The set after all steps, or the first refusal.
+pub fn stepped(start: AnyAnswer, steps: &[u8]) -> AnyAnswer {
+    let n = steps.len() / 2;
+    let mut here = start;
+    let mut k: usize = 0;
+    while k < n {
+        here = step(here, steps[2 * k], steps[2 * k + 1]);
+        k += 1;
+    }
+    here
+}
+
+// The set after one step; a refusal stays.
+fn step(here: AnyAnswer, index: u8, t: u8) -> AnyAnswer {
+    let verdict = here.answer;
+    let set = here.set;
+    match verdict {
+        Verdict::Refused(_) => here,
+        Verdict::Accepted => taken(set, index, t),
+    }
+}
+
+// The answer to one step.
+fn taken(set: AnyOverloadSet, index: u8, t: u8) -> AnyAnswer {
+    if index == NONE && t == NONE {
+        return set.concrete_only();
+    }
+    set.arg(wide(index), t)
+}
