@@ -56,7 +56,7 @@ each-function p e f h =
     (ap (every p) (take-all functionCount functionSets (omega (arith, counted))) ∙ e)
 
 -- and what also no set passes, the set of every number does
-each-number : (p : FunctionSet → Bool) → every p functionSets ≡ true → p set.Unknown ≡ true → (f : ℕ) → p (functionSetOf f) ≡ true
+pub each-number : (p : FunctionSet → Bool) → every p functionSets ≡ true → p set.Unknown ≡ true → (f : ℕ) → p (functionSetOf f) ≡ true
 each-number p e u f = go (ltb f functionCount) refl
   where
     go : (b : Bool) → ltb f functionCount ≡ b → p (functionSetOf f) ≡ true

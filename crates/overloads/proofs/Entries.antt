@@ -39,7 +39,8 @@ unfolding sift
 sift-number p i [] m = refl
 sift-number p i (r ∷ rs) m = ap (λ (s : ℕ). s * 2 + digit (both (odd m) (p r))) (sift-number p (suc i) rs (m / 2))
 
-keep-filter : (p : Signature → Bool) (xs : List Entry) → filter (λ (x : Entry). p (x .rule)) xs ≡ keep p xs
+-- to keep entries is to filter them by their rules
+pub keep-filter : (p : Signature → Bool) (xs : List Entry) → filter (λ (x : Entry). p (x .rule)) xs ≡ keep p xs
 keep-filter p [] = refl
 keep-filter p (x ∷ xs) = ap (consIf (p (x .rule)) x) (keep-filter p xs)
 

@@ -27,3 +27,16 @@ pub mod ListsOf
 pub mod Indices
 pub mod Ranks
 pub mod Database
+pub mod Firsts
+pub mod Narrowing
+pub mod Choices
+pub mod Positions
+pub mod Resolving
+pub mod RegularResolving
+pub mod ListResolving
+pub mod Surviving
+pub mod RegularCalls
+pub mod ListCalls
+pub mod Callables
+pub mod Demand2
+pub mod FunctionCalls

@@ -51,7 +51,7 @@ every-select p (x ∷ xs) m e = go (odd m) (every-select p xs (m / 2) (both-righ
 abbrev pub shapes : ℕ → ℕ → Bool
 shapes t k = both (value? t) (eqb (constructorPart t) k)
 
-abbrev numbers : ℕ → ℕ → Bool
+abbrev pub numbers : ℕ → ℕ → Bool
 numbers t s = both (value? t) (converts (scalarPart t) s)
 
 shape-mask : (t : ℕ) → singletonOfCode t ≡ maskOf (filter (shapes t) constructors)
@@ -106,14 +106,14 @@ module _ (p q r : ℕ → Bool) (e : (k s : ℕ) → k < 13 → s < 12 → p (k 
 
 -- ---- the types that a step leaves
 
-reaches-pair : (t k s : ℕ) → k < 13 → s < 12 → reaches t (k * 12 + s) ≡ both (shapes t k) (numbers t s)
+pub reaches-pair : (t k s : ℕ) → k < 13 → s < 12 → reaches t (k * 12 + s) ≡ both (shapes t k) (numbers t s)
 unfolding reaches
 reaches-pair t k s h l =
     let row : (k * 12 + s) / 12 ≡ k = omega arith in
     let column : (k * 12 + s) % 12 ≡ s = omega arith in
     simp (row, column)
 
-concrete-pair : (k s : ℕ) → k < 13 → s < 12 → not (isAbstract (k * 12 + s)) ≡ both true (not (abstract? s))
+pub concrete-pair : (k s : ℕ) → k < 13 → s < 12 → not (isAbstract (k * 12 + s)) ≡ both true (not (abstract? s))
 unfolding isAbstract
 concrete-pair k s h l =
     let column : (k * 12 + s) % 12 ≡ s = omega arith in
@@ -124,7 +124,7 @@ pub narrowed-constructors : (t : ℕ) (r : Regular) → bits 13 (narrowed t r .c
 unfolding narrowed
 narrowed-constructors t r = ap (λ (m : ℕ). bits 13 (bitAnd (r .constructors .0) m)) (shape-mask t) ∙ bits-meet 13 (shapes t) (r .constructors .0)
 
-narrowed-scalars : (t : ℕ) (r : Regular) → bits 12 (narrowed t r .scalars .0) ≡ filter (numbers t) (bits 12 (r .scalars .0))
+pub narrowed-scalars : (t : ℕ) (r : Regular) → bits 12 (narrowed t r .scalars .0) ≡ filter (numbers t) (bits 12 (r .scalars .0))
 unfolding narrowed
 narrowed-scalars t r = ap (λ (m : ℕ). bits 12 (bitAnd (r .scalars .0) m)) (number-mask t) ∙ bits-meet 12 (numbers t) (r .scalars .0)
 

@@ -21,7 +21,7 @@ use Rattle.overloads.proofs.RegularCodes.{narrowed-codes, concrete-code
 -- ---- a rule of equal arguments
 
 -- a rule of equal arguments takes a type where its one type does
-takes-each : (n i t a : ℕ) → i < n → takesAt i t (replicate n a) ≡ reaches t a
+pub takes-each : (n i t a : ℕ) → i < n → takesAt i t (replicate n a) ≡ reaches t a
 takes-each zero i t a h = absurd (not-suc-le-zero h)
 takes-each (suc n) zero t a h = refl
 takes-each (suc n) (suc i) t a h = takes-each n i t a (le-of-suc-le-suc h)
@@ -32,7 +32,7 @@ takes-past zero i t a h = refl
 takes-past (suc n) zero t a h = absurd (not-suc-le-zero h)
 takes-past (suc n) (suc i) t a h = takes-past n i t a (le-of-suc-le-suc h)
 
-concrete-each : (n a : ℕ) → 1 ≤ n → allConcrete (replicate n a) ≡ not (isAbstract a)
+pub concrete-each : (n a : ℕ) → 1 ≤ n → allConcrete (replicate n a) ≡ not (isAbstract a)
 concrete-each zero a h = absurd (not-suc-le-zero h)
 concrete-each (suc n) a h = go n
   where

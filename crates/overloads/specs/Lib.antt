@@ -7,6 +7,8 @@ pub mod Regular
 pub mod Expansion
 pub mod Agreement
 pub mod AnyOverloadSet
+pub mod Taking
+pub mod Call
 pub mod Sequences
 pub mod Functions
 pub mod SetPaper

@@ -12,6 +12,10 @@ use Rattle.overloads.specs.declared.regular.ConclusionRule.the-variants 
 use Rattle.overloads.specs.declared.regular.Regular.{Regular}
 use Rattle.overloads.specs.declared.regular.RegularAnswer.{RegularAnswer}
 use Rattle.overloads.specs.declared.regular.RegularAnswer.the-variants as regular
+use Rattle.overloads.specs.declared.call.CallAnswer.{CallAnswer}
+use Rattle.overloads.specs.declared.call.CallAnswer.the-variants as call
+use Rattle.overloads.specs.declared.call.Survivors.{Survivors}
+use Rattle.overloads.specs.declared.call.Survivors.the-variants as survivors
 
 -- ---- a rule: four argument codes, their count, the result
 
@@ -25,6 +29,16 @@ rulePaper (rule.Refused why) = refused why (255 ∷ 255 ∷ 255 ∷ 255 ∷ 255 
 abbrev pub chosenPaper : ChosenAnswer → Paper
 chosenPaper (chosen.Rule c) = accepted (c .index ∷ ruleValues (c .rule))
 chosenPaper (chosen.Refused why) = refused why (255 ∷ 255 ∷ 255 ∷ 255 ∷ 255 ∷ 255 ∷ 255 ∷ [])
+
+-- ---- a call: the chosen rule's index in the full listing, and the rule; its survivors: the mask of their indices
+
+abbrev pub callPaper : CallAnswer → Paper
+callPaper (call.Rule c) = accepted (c .index ∷ ruleValues (c .rule))
+callPaper (call.Refused why) = refused why (255 ∷ 255 ∷ 255 ∷ 255 ∷ 255 ∷ 255 ∷ 255 ∷ [])
+
+abbrev pub survivorsPaper : Survivors → Paper
+survivorsPaper (survivors.Members m) = accepted (m ∷ [])
+survivorsPaper (survivors.Refused why) = refused why (0 ∷ [])
 
 -- ---- a Regular set: arity, the two masks, the conclusion's number in the order of the Rust's enum
 

@@ -4,8 +4,10 @@
 // Every public function ends on every input and tests it itself.
 
 mod any_overload_set;
+mod call;
 mod expansion;
 mod full_listing;
+mod function_call;
 mod list;
 mod listed_rules;
 mod listing;
@@ -18,8 +20,12 @@ mod walks;
 pub use any_overload_set::AnyAnswer;
 pub use any_overload_set::AnyOverloadSet;
 pub use any_overload_set::SetKind;
+pub use call::CallAnswer;
+pub use call::Survivors;
 pub use expansion::expand;
 pub use full_listing::rule_at;
+pub use function_call::call_of;
+pub use function_call::survivors_of;
 pub use list::Chosen;
 pub use list::ChosenAnswer;
 pub use list::List;

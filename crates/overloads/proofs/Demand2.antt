@@ -1,0 +1,164 @@
+-- Demand 2, of single calls. Over any listing whose rules have one length, with the concrete-only switch on or off:
+--
+-- * The survivors of a call are the listing's entries that take every operand in turn and pass the switch, in order; the preferred
+--   rule is the first of them, its index its place in the full listing, and the result that rule's own.
+-- * What a call answers is exactly what is so: a rule, the first of the listing that takes the operands; 5 where no rule takes that
+--   number of operands; 6 at operand k where some rule takes the operands before k, but none takes those up to k; 1 where rules take
+--   the operands and the switch drops them all.
+-- * A call is accepted exactly when some rule of the listing has that many arguments, each equal to or reached from the operand's
+--   type, and with the switch on no abstract argument.
+--
+-- Assumes nothing.
+use mathlib.Core.Path.{_≡_, refl, sym, ap, _∙_, subst}
+use mathlib.Core.Bool.{Bool, true, false, false≢true}
+use mathlib.Core.List.{List, _∷_}
+use mathlib.Core.Option.{some}
+use Prim.Native.Nat.{ℕ, zero, suc, _<_}
+use native.Mathlib.Omega.{arith}
+use lib.Dec.{ltb}
+use lib.ListN.{length, getElem?}
+use borrow.Author.Tests.{ltb-true, ltb-false}
+use Rattle.overloads.specs.Signature.{Signature}
+use Rattle.domain.specs.Mask.{select}
+use Rattle.overloads.specs.Choice.{number, keep, first, longest, Choice, chosen, wrongCount, noneAfter, noneConcrete, resolve}
+use Rattle.overloads.specs.Taking.{Takes, Taken, NoRule, Best, OneLength, LeftAfter, Emptied, Says}
+use Rattle.overloads.specs.Call.{answered, survivorsOf}
+use Rattle.overloads.specs.declared.call.CallAnswer.the-variants as call
+use Rattle.overloads.specs.declared.call.Survivors.the-variants as survivors
+use Rattle.domain.specs.declared.refusal.Refusal.{Refusal}
+use Rattle.overloads.proofs.Choices.{passes, resolve-says}
+use Rattle.overloads.proofs.Surviving.{survivors-members, survivors-refused}
+
+module _ (switch : Bool) (rules : List Signature) (ts : List ℕ) (one : OneLength rules) where
+  -- ---- what is said of a call is said of one choice alone
+
+  -- a rule that takes all operands takes those up to k
+  left-after : (i : ℕ) (r : Signature) → getElem? rules i ≡ some r → Takes switch ts r → (k : ℕ) → k < length ts → LeftAfter rules ts k
+  left-after i r h t k l =
+      let m : length ts ≡ length (r .arguments) = t .many in
+      record { index = i; rule = r; there = h; long = omega arith; reached = λ j b. t .reached j (omega arith) }
+
+  counted : (i : ℕ) (r : Signature) → getElem? rules i ≡ some r → Takes switch ts r → length ts ≡ longest rules
+  unfolding OneLength
+  counted i r h t = t .many ∙ one i r h
+
+  same-best : (i j : ℕ) (r s : Signature) → Best switch rules ts i r → Best switch rules ts j s → chosen i r ≡ chosen j s
+  same-best i j r s a b = go (ltb i j) (ltb j i) refl refl
+    where
+      go : (x y : Bool) → ltb i j ≡ x → ltb j i ≡ y → chosen i r ≡ chosen j s
+      go true y e f = absurd (b .earliest i (ltb-true i j e) r (a .there) (a .taken))
+      go false true e f = absurd (a .earliest j (ltb-true j i f) s (b .there) (b .taken))
+      go false false e f =
+          let z : i ≡ j = omega (arith, ltb-false i j e, ltb-false j i f) in
+          let g : some r ≡ some s = sym (a .there) ∙ ap (λ (k : ℕ). getElem? rules k) z ∙ b .there in
+          cc
+
+  same-operand : (j k : ℕ) → Emptied rules ts j → Emptied rules ts k → noneAfter j ≡ noneAfter k
+  same-operand j k a b = go (ltb j k) (ltb k j) refl refl
+    where
+      go : (x y : Bool) → ltb j k ≡ x → ltb k j ≡ y → noneAfter j ≡ noneAfter k
+      go true y e f = absurd (a .none (b .before j (ltb-true j k e)))
+      go false true e f = absurd (b .none (a .before k (ltb-true k j f)))
+      go false false e f = let z : j ≡ k = omega (arith, ltb-false j k e, ltb-false k j f) in ap noneAfter z
+
+  no-best : (i : ℕ) (r : Signature) → Best switch rules ts i r → NoRule switch rules ts → ⊥
+  unfolding NoRule
+  no-best i r a n = n i r (a .there) (a .taken)
+
+  pub says-one : (c d : Choice) → Says switch rules ts c → Says switch rules ts d → c ≡ d
+  says-one (chosen i r) (chosen j s) a b = same-best i j r s a b
+  says-one (chosen i r) wrongCount a b = absurd (b (counted i r (a .there) (a .taken)))
+  says-one (chosen i r) (noneAfter k) a b = absurd (b .none (left-after i r (a .there) (a .taken) k (b .there)))
+  says-one (chosen i r) noneConcrete a b = absurd (no-best i r a (b .none))
+  says-one wrongCount (chosen j s) a b = absurd (a (counted j s (b .there) (b .taken)))
+  says-one wrongCount wrongCount a b = refl
+  says-one wrongCount (noneAfter k) a b = absurd (a (b .counted))
+  says-one wrongCount noneConcrete a b = absurd (a (b .counted))
+  says-one (noneAfter k) (chosen j s) a b = absurd (a .none (left-after j s (b .there) (b .taken) k (a .there)))
+  says-one (noneAfter k) wrongCount a b = absurd (b (a .counted))
+  says-one (noneAfter j) (noneAfter k) a b = same-operand j k a b
+  says-one (noneAfter k) noneConcrete a b = absurd (a .none (b .after k (a .there)))
+  says-one noneConcrete (chosen j s) a b = absurd (no-best j s b (a .none))
+  says-one noneConcrete wrongCount a b = absurd (b (a .counted))
+  says-one noneConcrete (noneAfter k) a b = absurd (b .none (a .after k (b .there)))
+  says-one noneConcrete noneConcrete a b = refl
+
+  -- ---- exactly
+
+  -- the steps make a choice exactly when what it says is so
+  pub exactly : (c : Choice) → (resolve switch rules ts ≡ c → Says switch rules ts c) × (Says switch rules ts c → resolve switch rules ts ≡ c)
+  exactly c = (λ e. subst (Says switch rules ts) e (resolve-says switch rules ts one), λ s. says-one (resolve switch rules ts) c (resolve-says switch rules ts one) s)
+
+  -- a call is accepted exactly when some rule takes the operands
+  pub accepted : (i : ℕ) (r : Signature) → resolve switch rules ts ≡ chosen i r → Taken switch rules ts
+  accepted i r e = let b = exactly (chosen i r) .0 e in record { index = i; rule = r; there = b .there; takes = b .taken }
+
+  pub accepts : Taken switch rules ts → (i : ℕ) × (r : Signature) × (resolve switch rules ts ≡ chosen i r)
+  unfolding NoRule
+  accepts t = go (resolve switch rules ts) refl (resolve-says switch rules ts one)
+    where
+      go : (c : Choice) → resolve switch rules ts ≡ c → Says switch rules ts c → (i : ℕ) × (r : Signature) × (resolve switch rules ts ≡ chosen i r)
+      go (chosen i r) e s = (i, r, e)
+      go wrongCount e s = absurd (s (counted (t .index) (t .rule) (t .there) (t .takes)))
+      go (noneAfter k) e s = absurd (s .none (left-after (t .index) (t .rule) (t .there) (t .takes) k (s .there)))
+      go noneConcrete e s = absurd (s .none (t .index) (t .rule) (t .there) (t .takes))
+
+  -- ---- the survivors
+
+  -- accepted, they are the entries that take every operand and pass the switch, in order, and the call chooses the first; refused, the
+  -- call is refused alike
+  pub survivors-are : (m : ℕ) → survivorsOf switch rules ts ≡ survivors.Members m
+      → (select (number 0 rules) m ≡ keep (passes switch ts) (number 0 rules)) × (resolve switch rules ts ≡ first (select (number 0 rules) m))
+  survivors-are m e =
+      let h = survivors-members switch rules ts m e in
+      (h .members, h .choice ∙ sym (ap first (h .members)))
+
+  pub survivors-refused-alike : (why : Refusal) → survivorsOf switch rules ts ≡ survivors.Refused why → answered (resolve switch rules ts) ≡ call.Refused why
+  survivors-refused-alike why e = survivors-refused switch rules ts why e
+
+-- ---- refusal 1: only the switch empties the set
+
+module _ (rules : List Signature) (ts : List ℕ) (one : OneLength rules) (r : Signature) (rest : List Signature) (rules-are : rules ≡ r ∷ rest) where
+  -- a rule that is left after the last operand takes them all; of no operands, any rule does
+  last-taken : length ts ≡ longest rules → ((j : ℕ) → j < length ts → LeftAfter rules ts j) → Taken false rules ts
+  unfolding OneLength
+  last-taken l after = go (length ts) refl
+    where
+      there : getElem? rules 0 ≡ some r
+      there = ap (λ (rs : List Signature). getElem? rs 0) rules-are
+
+      go : (n : ℕ) → length ts ≡ n → Taken false rules ts
+      go zero e =
+          record {
+            index = 0;
+            rule = r;
+            there = there;
+            takes = record { many = l ∙ sym (one 0 r there); reached = λ k h. absurd (omega arith); allowed = λ b. absurd (false≢true b) };
+          }
+      go (suc n) e =
+          let w = after n (omega arith) in
+          record {
+            index = w .index;
+            rule = w .rule;
+            there = w .there;
+            takes = record { many = l ∙ sym (one (w .index) (w .rule) (w .there)); reached = λ k h. w .reached k (omega arith); allowed = λ b. absurd (false≢true b) };
+          }
+
+  -- refused 1: the switch is on, and rules that take the operands without it are all dropped
+  pub dropped : (switch : Bool) → resolve switch rules ts ≡ noneConcrete → (switch ≡ true) × Taken false rules ts × NoRule true rules ts
+  unfolding NoRule
+  dropped true e =
+      let d = exactly true rules ts one noneConcrete .0 e in
+      (refl, last-taken (d .counted) (d .after), d .none)
+  dropped false e =
+      let d = exactly false rules ts one noneConcrete .0 e in
+      let t = last-taken (d .counted) (d .after) in
+      absurd (d .none (t .index) (t .rule) (t .there) (t .takes))
+
+  pub drops : Taken false rules ts → NoRule true rules ts → resolve true rules ts ≡ noneConcrete
+  drops t n =
+      exactly true rules ts one noneConcrete .1 record {
+        counted = counted false rules ts one (t .index) (t .rule) (t .there) (t .takes);
+        after = left-after false rules ts one (t .index) (t .rule) (t .there) (t .takes);
+        none = n;
+      }

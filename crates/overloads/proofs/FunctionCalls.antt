@@ -1,0 +1,72 @@
+-- The sets of the 79 functions are ones that a call can be asked of, and their rules are the functions' listings.
+-- Assumes nothing.
+use mathlib.Core.Path.{_≡_, refl, sym, ap, _∙_, subst}
+use mathlib.Core.Bool.{Bool, true}
+use mathlib.Core.List.{List}
+use Prim.Native.Nat.{ℕ, _≤_, _<_}
+use native.Mathlib.Omega.{arith}
+use lib.ListN.{length}
+use Rattle.domain.specs.Mask.{bits}
+use Rattle.overloads.specs.Signature.{Signature}
+use Rattle.overloads.specs.List.{signatures}
+use Rattle.overloads.specs.Regular.{regularRules, codesOf, allConclude, concludedOf, emptySet?}
+use Rattle.domain.specs.TypeCode.{predeclaredCode}
+use Rattle.overloads.specs.Sequences.{floatScalars, concreteFloatScalars, concreteIntScalars, vectorSizes, vector, matrix, scalarOrVecn}
+use Rattle.overloads.specs.Functions.{functionCount, functionSets, functionSetOf, listedRules, rulesIn, listingOf}
+use Rattle.overloads.specs.Expansion.{listOf}
+use Rattle.overloads.specs.Call.{Callable, Full}
+use Rattle.overloads.specs.declared.list.List as lists
+use Rattle.overloads.specs.declared.mathfunction.FunctionSet.{FunctionSet}
+use Rattle.overloads.specs.declared.mathfunction.FunctionSet.the-variants as set
+use Rattle.overloads.specs.declared.mathfunction.Listed.{Listed}
+use Rattle.overloads.specs.declared.mathfunction.Listed.the-variants.{Ldexp, Outer, Refract, Mix, Transpose, ExtractBits, InsertBits}
+use Rattle.overloads.specs.declared.regular.Regular.{Regular}
+use Rattle.overloads.proofs.Callables.{callable?, callable-of}
+use Rattle.overloads.proofs.Database.{each-number, few-rules, some-rules, listed-valid, listed-signatures}
+
+-- ---- Regular sets
+
+abbrev sound : FunctionSet → Bool
+sound (set.Regular r) = callable? r
+sound (set.List l) = true
+sound set.Unknown = true
+
+pub callable : (f : ℕ) (r : Regular) → functionSetOf f ≡ set.Regular r → Callable r
+unfolding functionSets bits codesOf allConclude concludedOf predeclaredCode emptySet?
+callable f r e = callable-of r (sym (ap sound e) ∙ each-number sound refl refl f)
+
+pub regular-listing : (f : ℕ) (r : Regular) → functionSetOf f ≡ set.Regular r → listingOf f ≡ regularRules r
+unfolding listingOf
+regular-listing f r e = ap rulesIn e
+
+pub regular-few : (f : ℕ) (r : Regular) → functionSetOf f ≡ set.Regular r → length (regularRules r) ≤ 63
+regular-few f r e = subst (λ (rs : List Signature). length rs ≤ 63) (regular-listing f r e) (few-rules f)
+
+-- ---- Lists
+
+some-listed : (l : Listed) → 0 < length (listedRules l)
+unfolding listedRules floatScalars concreteFloatScalars concreteIntScalars vectorSizes vector matrix scalarOrVecn
+some-listed Ldexp = omega arith
+some-listed Outer = omega arith
+some-listed Refract = omega arith
+some-listed Mix = omega arith
+some-listed Transpose = omega arith
+some-listed ExtractBits = omega arith
+some-listed InsertBits = omega arith
+
+whole : (l : Listed) → Full (listOf (listedRules l))
+unfolding listOf
+whole l = record { valid = listed-valid l; some = some-listed l; all = refl }
+
+pub full : (l : Listed) (list : lists.List) → list ≡ listOf (listedRules l) → Full list
+full l list e = subst (λ (x : lists.List). Full x) (sym e) (whole l)
+
+pub list-listing : (f : ℕ) (l : Listed) (list : lists.List) → functionSetOf f ≡ set.List l → list ≡ listOf (listedRules l) → signatures list ≡ listingOf f
+unfolding listingOf
+list-listing f l list e q = ap signatures q ∙ listed-signatures l ∙ sym (ap rulesIn e)
+
+-- ---- no set is missing
+
+pub never-unknown : (f : ℕ) → f < functionCount → functionSetOf f ≡ set.Unknown → ⊥
+unfolding listingOf
+never-unknown f h e = let n : 0 < length (listingOf f) = some-rules f h in let z : length (listingOf f) ≡ 0 = ap (λ (s : FunctionSet). length (rulesIn s)) e in omega arith

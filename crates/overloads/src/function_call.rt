@@ -1,0 +1,56 @@
+// A call of one of the 79 functions: what its set answers. Document 01's order: the function is tested, each operand's type in turn,
+// the number of operands, each argument in turn, then the switch, then the preferred rule.
+
+ghost use mathlib.Core.Path.{_≡_};
+ghost use Rattle.overloads.specs.Call.{callOf, survivorsOfCall};
+ghost use Rattle.overloads.specs.Functions.{functionCount, listingOf};
+use crate::call::CallAnswer;
+use crate::call::Survivors;
+use crate::call::call_list;
+use crate::call::call_regular;
+use crate::call::survivors_list;
+use crate::call::survivors_regular;
+use crate::listed_rules::list_of;
+use crate::mathfunction::FUNCTION_COUNT;
+use crate::mathfunction::FunctionSet;
+use crate::mathfunction::function_set;
+use domain::Refusal;
+use domain::first_unknown;
+
+// The rule that a call of the function with operands of these types means, with its index in the function's full listing. Refused 7 at
+// 0 for the function, at 1 + index for a type; 5 for the number of operands; 6 at 1 + index for the operand that leaves no rule; 1 where
+// the concrete-only switch leaves none.
+pub fn call_of(function: u8, operands: &[u8], switch: bool) -> CallAnswer
+    ensures { λ r. ⌜ r ≡ callOf functionCount listingOf switch function (now (operands .entry)) ⌝ }
+{
+    if FUNCTION_COUNT <= function {
+        return CallAnswer::Refused(Refusal::Unknown(0));
+    }
+    let known = first_unknown(operands);
+    if known < operands.len() {
+        return CallAnswer::Refused(Refusal::Unknown(1 + known));
+    }
+    match function_set(function) {
+        FunctionSet::Unknown => CallAnswer::Refused(Refusal::Unknown(0)),
+        FunctionSet::Regular(regular) => call_regular(regular, operands, switch),
+        FunctionSet::List(listed) => call_list(list_of(listed), operands, switch),
+    }
+}
+
+// The rules of the function's full listing that survive the call. Refused as `call_of` is.
+pub fn survivors_of(function: u8, operands: &[u8], switch: bool) -> Survivors
+    ensures { λ r. ⌜ r ≡ survivorsOfCall functionCount listingOf switch function (now (operands .entry)) ⌝ }
+{
+    if FUNCTION_COUNT <= function {
+        return Survivors::Refused(Refusal::Unknown(0));
+    }
+    let known = first_unknown(operands);
+    if known < operands.len() {
+        return Survivors::Refused(Refusal::Unknown(1 + known));
+    }
+    match function_set(function) {
+        FunctionSet::Unknown => Survivors::Refused(Refusal::Unknown(0)),
+        FunctionSet::Regular(regular) => survivors_regular(regular, operands, switch),
+        FunctionSet::List(listed) => survivors_list(list_of(listed), operands, switch),
+    }
+}
