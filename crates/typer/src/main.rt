@@ -1,0 +1,104 @@
+// Types the expression on standard input: prints number, place and type, and then the worksheet, a line for each four bytes. A refusal
+// prints its first line only, with type 255. The concrete-only switch is off, and the buffer always suffices.
+//
+// What is answered depends on at most the first 193 bytes of the input, so the program keeps the first 4,096 and reads the rest to its
+// end without keeping it.
+
+ghost use mathlib.Core.Path.{_≡_};
+ghost use lib.ListN.{length};
+use libc::STDIN_FILENO;
+use libc::STDOUT_FILENO;
+use worksheet::TypeAnswer;
+use worksheet::type_expression;
+
+// No line begins with this tag, so in a buffer filled with it the worksheet ends where it is met.
+const UNWRITTEN: u8 = 255;
+
+// The bytes of a line.
+const LINE: usize = 4;
+
+fn main() {
+    let mut space = io::buffer();
+    let n = io::read_full(STDIN_FILENO, &mut space);
+    skip_rest();
+    let mut sheet = unwritten();
+    answer(&space[..n], &mut sheet);
+}
+
+// Types the input into the sheet and prints what came out.
+fn answer(input: &[u8], sheet: &mut [u8]) {
+    match type_expression(input, false, sheet) {
+        TypeAnswer::Refused(why) => print_answer(why.number(), why.place(), 255),
+        TypeAnswer::Typed(code) => {
+            print_answer(0, 0, code);
+            print_sheet(sheet);
+        }
+    }
+}
+
+// A buffer of 508 bytes in which nothing was written.
+fn unwritten() -> [u8; 508]
+    ensures { λ r. ⌜ 508 ≡ length r ⌝ }
+{
+    [UNWRITTEN; 508]
+}
+
+// Reads what is left of standard input, up to more than any disk holds.
+fn skip_rest() {
+    let mut left: u64 = 1 << 40;
+    while 0 < left {
+        if !skip_some() {
+            return;
+        }
+        left -= 1;
+    }
+}
+
+// Reads some of standard input; false at its end.
+fn skip_some() -> bool {
+    let mut space = io::large_buffer();
+    0 < io::read_full(STDIN_FILENO, &mut space)
+}
+
+// The line of number, place and type.
+fn print_answer(number: u8, place: usize, code: u8) {
+    print_number(number as u64, b" ");
+    print_number(place as u64, b" ");
+    print_number(code as u64, b"\n");
+}
+
+// The lines of a worksheet, up to the first that was not written.
+fn print_sheet(sheet: &[u8]) {
+    let mut at: usize = 0;
+    while at < sheet.len() {
+        if sheet[at] == UNWRITTEN {
+            return;
+        }
+        print_line(&sheet[at..]);
+        if sheet.len() - at <= LINE {
+            return;
+        }
+        at += LINE;
+    }
+}
+
+// The first line of what is left of a worksheet.
+fn print_line(left: &[u8]) {
+    if left.len() < LINE {
+        return;
+    }
+    print_number(wide(left[0]), b" ");
+    print_number(wide(left[1]), b" ");
+    print_number(wide(left[2]), b" ");
+    print_number(wide(left[3]), b"\n");
+}
+
+fn wide(byte: u8) -> u64 {
+    byte as u64
+}
+
+// A number and what stands behind it.
+fn print_number(n: u64, end: &[u8]) {
+    io::print_decimal(STDOUT_FILENO, n);
+    io::write_all(STDOUT_FILENO, end);
+}

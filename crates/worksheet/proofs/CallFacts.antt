@@ -1,0 +1,130 @@
+-- What a single call answers, for the second pass: a chosen rule has an argument for each operand, in the four fields of its record;
+-- an operand after which no rule is left is one of the operands.
+-- Rests on the database only by the laws of proofs/Database.antt. Assumes nothing.
+use mathlib.Core.Path.{_≡_, refl, ap, subst}
+use mathlib.Core.Bool.{Bool, true, false}
+use mathlib.Core.List.{List, [], _∷_}
+use Prim.Native.Nat.{ℕ, _+_, _≤_, _<_}
+use native.Mathlib.Omega.{arith}
+use borrow.Author.Tests.{lt-ltb, le-ltb}
+use lib.Dec.{ltb}
+use lib.ListN.{length}
+use Rattle.domain.specs.Mask.{choose, either}
+use Rattle.domain.specs.Domain.{firstUnknown}
+use Rattle.overloads.specs.Signature.{Signature}
+use Rattle.overloads.specs.Rule.{argumentsOf, ruleOf}
+use Rattle.overloads.specs.Choice.{Entry, number, Narrowed, left, emptied, narrow, Choice, chosen, wrongCount, noneAfter, noneConcrete, first, concreteStep, afterOperands, longest, resolve}
+use Rattle.overloads.specs.Functions.{functionCount, listingOf}
+use Rattle.overloads.specs.Call.{answered, callOf}
+use Rattle.domain.specs.Refusal.{numberOf, placeOf}
+use Rattle.overloads.specs.declared.list.Chosen.{Chosen}
+use Rattle.overloads.specs.declared.call.CallAnswer.{CallAnswer}
+use Rattle.overloads.specs.declared.call.CallAnswer.the-variants as answers
+use Rattle.domain.specs.declared.refusal.Refusal.{Refusal}
+use Rattle.domain.specs.declared.refusal.Refusal.the-variants.{Unknown}
+use Rattle.worksheet.specs.Machine.{mostOperands}
+use Rattle.worksheet.specs.SecondPass.{Within}
+use Rattle.worksheet.proofs.Narrowing.{Narrows, narrow-narrows}
+use Rattle.worksheet.proofs.Choice.{Answers, resolve-answers}
+use Rattle.worksheet.proofs.Database.{one-length, four-arguments, result-known}
+
+-- a rule of at most four arguments is the meaning of its record
+fields-hold : (r : Signature) → length (r .arguments) ≤ 4 → argumentsOf (ruleOf r) ≡ r .arguments
+unfolding argumentsOf ruleOf
+fields-hold r h = go (r .arguments) h
+  where
+    go : (az : List ℕ) → length az ≤ 4 → argumentsOf (ruleOf (record { arguments = az; result = r .result })) ≡ az
+    go [] k = refl
+    go (a ∷ []) k = refl
+    go (a ∷ b ∷ []) k = refl
+    go (a ∷ b ∷ c ∷ []) k = refl
+    go (a ∷ b ∷ c ∷ d ∷ []) k = refl
+    go (a ∷ b ∷ c ∷ d ∷ e ∷ az) k = absurd (omega arith)
+
+-- the operand after which no rule is left
+abbrev Inside : List ℕ → Choice → Type 0
+Inside ts (chosen i r) = Unit
+Inside ts wrongCount = Unit
+Inside ts (noneAfter k) = k < length ts
+Inside ts noneConcrete = Unit
+
+first-inside : (ts : List ℕ) (s : List Entry) → Inside ts (first s)
+first-inside ts [] = tt
+first-inside ts (x ∷ xs) = tt
+
+after-inside : (switch : Bool) (ts : List ℕ) (s : List Entry) (y : Narrowed) → Narrows ts 0 s y → Inside ts (afterOperands switch y)
+after-inside switch ts s (left s′) h = first-inside ts (concreteStep switch s′)
+after-inside switch ts s (emptied j) h =
+    let e : j ≡ 0 + h .0 = h .1 in
+    let l : h .0 < length ts = h .2 in
+    omega arith
+
+resolve-inside : (switch : Bool) (rules : List Signature) (ts : List ℕ) → Inside ts (resolve switch rules ts)
+unfolding resolve
+resolve-inside switch rules ts = go (either (ltb (length ts) (longest rules)) (ltb (longest rules) (length ts)))
+  where
+    go : (b : Bool) → Inside ts (choose b wrongCount (afterOperands switch (narrow ts 0 (number 0 rules))))
+    go true = tt
+    go false = after-inside switch ts (number 0 rules) (narrow ts 0 (number 0 rules)) (narrow-narrows ts 0 (number 0 rules))
+
+-- what is known of a choice
+pub record Ruled (ts : List ℕ) (r : Signature) : Type 0 where
+  pub fields : argumentsOf (ruleOf r) ≡ r .arguments
+  pub many : length ts ≡ length (r .arguments)
+  pub known : r .result ≤ 180
+
+abbrev pub Chose : List ℕ → Choice → Type 0
+Chose ts (chosen i r) = Ruled ts r
+Chose ts wrongCount = Unit
+Chose ts (noneAfter k) = k < length ts
+Chose ts noneConcrete = Unit
+
+module _ (switch : Bool) (f : ℕ) (ts : List ℕ) where
+  chose-from : (c : Choice) → Inside ts c → Answers switch (listingOf f) ts 0 [] c → Chose ts c
+  chose-from (chosen i r) h b = record {
+    fields = fields-hold r (four-arguments f i r (b .there));
+    many = b .taken .many;
+    known = result-known f i r (b .there);
+  }
+  chose-from wrongCount h b = tt
+  chose-from (noneAfter k) h b = h
+  chose-from noneConcrete h b = tt
+
+  pub chose : Chose ts (resolve switch (listingOf f) ts)
+  chose =
+      chose-from (resolve switch (listingOf f) ts) (resolve-inside switch (listingOf f) ts)
+      (resolve-answers switch (listingOf f) ts 0 [] (one-length f))
+
+  -- what is known of an answer, whatever was asked
+  abbrev Fine : CallAnswer → Type 0
+  Fine (answers.Rule x) = length ts ≤ length (argumentsOf (x .rule))
+  Fine (answers.Refused why) = numberOf why ≡ 6 → (0 < placeOf why) × (placeOf why ≤ length ts)
+
+  answered-fine : (c : Choice) → Chose ts c → Fine (answered c)
+  answered-fine (chosen i r) h = omega (arith, ap length (h .fields), h .many)
+  answered-fine wrongCount h = λ e. absurd (omega arith)
+  answered-fine (noneAfter k) h = λ e. (omega arith, omega arith)
+  answered-fine noneConcrete h = λ e. absurd (omega arith)
+
+  fine : Fine (callOf functionCount listingOf switch f ts)
+  unfolding callOf
+  fine = go (ltb f functionCount) (ltb (firstUnknown ts) (length ts))
+    where
+      go : (b b′ : Bool) → Fine
+          (choose b (choose b′ (answers.Refused (Unknown (1 + firstUnknown ts))) (answered (resolve switch (listingOf f) ts)))
+          (answers.Refused (Unknown 0)))
+      go false b′ = λ e. absurd (omega arith)
+      go true true = λ e. absurd (omega arith)
+      go true false = answered-fine (resolve switch (listingOf f) ts) chose
+
+  pub rule-takes : {x : Chosen} → callOf functionCount listingOf switch f ts ≡ answers.Rule x → length ts ≤ length (argumentsOf (x .rule))
+  rule-takes e = subst Fine e fine
+
+  pub refusal-within : (why : Refusal) (from : ℕ) → callOf functionCount listingOf switch f ts ≡ answers.Refused why → from + length ts ≤ mostOperands
+      → Within why from
+  refusal-within why from e h n = let w = subst Fine e fine in let k = w n in (k .0, omega arith)
+
+  -- a known function of known operands is answered by its listing
+  pub call-known : f < functionCount → length ts ≤ firstUnknown ts → callOf functionCount listingOf switch f ts ≡ answered (resolve switch (listingOf f) ts)
+  unfolding callOf
+  call-known h k = simp (lt-ltb f functionCount h, le-ltb (firstUnknown ts) (length ts) k)

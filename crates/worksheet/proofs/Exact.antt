@@ -1,0 +1,166 @@
+-- The typer answers exactly what `specs/Meaning.antt` and `specs/Fault.antt` say: it accepts an expression, with its type and lines,
+-- just where the expression gives them, and refuses it, with its refusal, just where it fails so; an expression is stuck just where
+-- it fails, and then it gives nothing. Where every listing has one rule length.
+-- Assumes nothing.
+use mathlib.Core.Path.{_≡_, refl, ap}
+use mathlib.Core.Bool.{Bool}
+use mathlib.Core.List.{List, _++_}
+use Prim.Native.Nat.{ℕ, _<_}
+use native.Mathlib.Omega.{arith}
+use Rattle.overloads.specs.Signature.{Signature}
+use Rattle.overloads.specs.Choice.{Choice, chosen, wrongCount, noneAfter, noneConcrete, resolve}
+use Rattle.domain.specs.declared.refusal.Refusal.{Refusal}
+use Rattle.worksheet.specs.Tree.{Tree, Trees, leaf, call, none, more}
+use Rattle.worksheet.specs.Line.{Line, callLines}
+use Rattle.worksheet.specs.Places.{inside, behind, starts}
+use Rattle.worksheet.specs.Typer.{Typed, typed, refused, Operands, operands, refusedAmong, before, conclude, concludeCall, typeOf, typeAll}
+use Rattle.worksheet.specs.Meaning.{NoRule, Best, OneLength, Gives, leafGives, callGives, GiveAll, noneGive, moreGive, Stuck, atArgument, atCall, StuckAmong, firstStuck, laterStuck}
+use Rattle.worksheet.specs.Fault.{Fault, Fails, failsInside, failsHere, FailsAmong, failsFirst, failsLater}
+use Rattle.worksheet.proofs.Choice.{Answers, resolve-answers}
+use Rattle.worksheet.proofs.Faults.{fault-one, fault-no-rule}
+
+-- the best rule is one
+best-one : (switch : Bool) (rules : List Signature) (ts : List ℕ) (i j : ℕ) (r r′ : Signature) → Best switch rules ts i r
+    → Best switch rules ts j r′ → (i ≡ j) × (r ≡ r′)
+best-one switch rules ts i j r r′ a b = (same, cc (a .there, b .there, same))
+  where
+    low : i < j → ⊥
+    low h = b .earliest i h r (a .there) (a .taken)
+
+    high : j < i → ⊥
+    high h = a .earliest j h r′ (b .there) (b .taken)
+
+    same : i ≡ j
+    same = omega (arith, low, high)
+
+module _ (listingOf : ℕ → List Signature) (switch : Bool) where
+  -- what an answer means, for an expression at an offset
+  abbrev pub Means : Tree → ℕ → Typed → Type 0
+  Means e at (typed t ls) = Gives listingOf switch e t ls
+  Means e at (refused why) = Fails listingOf switch e at why
+
+  abbrev MeansAll : Trees → ℕ → Operands → Type 0
+  MeansAll es at (operands ts ls) = GiveAll listingOf switch es ts ls
+  MeansAll es at (refusedAmong why) = FailsAmong listingOf switch es at why
+
+  before-means : (e : Tree) (es : Trees) (at : ℕ) (x : Typed) (y : Operands) → Means e at x → MeansAll es (behind e at) y
+      → MeansAll (more e es) at (before x y)
+  before-means e es at (refused why) y g h = failsFirst g
+  before-means e es at (typed t ls) (refusedAmong why) g h = failsLater g h
+  before-means e es at (typed t ls) (operands ts ls′) g h = moreGive g h
+
+  conclude-means : (f at : ℕ) (es : Trees) (ts : List ℕ) (ls : List Line) → GiveAll listingOf switch es ts ls → (c : Choice)
+      → Answers switch (listingOf f) ts at (starts es (inside at)) c
+      → Means (call f es) at (conclude f at (starts es (inside at)) ts ls c)
+  conclude-means f at es ts ls g (chosen i r) b = callGives g b
+  conclude-means f at es ts ls g wrongCount b = failsHere g b
+  conclude-means f at es ts ls g (noneAfter k) b = failsHere g b
+  conclude-means f at es ts ls g noneConcrete b = failsHere g b
+
+  -- a call that has a best rule is concluded by it, and one at fault is refused for it
+  module _ (f at : ℕ) (places : List ℕ) (ts : List ℕ) (ls : List Line) (one : OneLength (listingOf f)) where
+    never : {why : Refusal} {i : ℕ} {r : Signature} → Fault switch (listingOf f) ts at places why → Best switch (listingOf f) ts i r → ⊥
+    unfolding NoRule
+    never {i = i} {r = r} w b = fault-no-rule switch (listingOf f) ts at places one w i r (b .there) (b .taken)
+
+    conclude-best : (i : ℕ) (r : Signature) → Best switch (listingOf f) ts i r
+        → (c : Choice) → Answers switch (listingOf f) ts at places c
+        → conclude f at places ts ls c ≡ typed (r .result) (ls ++ callLines f i ts r)
+    conclude-best i r b (chosen j r′) a = let o = best-one switch (listingOf f) ts j i r′ r a b in rw (o .0, o .1)
+    conclude-best i r b wrongCount a = absurd (never a b)
+    conclude-best i r b (noneAfter k) a = absurd (never a b)
+    conclude-best i r b noneConcrete a = absurd (never a b)
+
+    conclude-fault : {why : Refusal} → Fault switch (listingOf f) ts at places why
+        → (c : Choice) → Answers switch (listingOf f) ts at places c → conclude f at places ts ls c ≡ refused why
+    conclude-fault w (chosen i r) a = absurd (never w a)
+    conclude-fault w wrongCount a = ap refused (fault-one switch (listingOf f) ts at places a w)
+    conclude-fault w (noneAfter k) a = ap refused (fault-one switch (listingOf f) ts at places a w)
+    conclude-fault w noneConcrete a = ap refused (fault-one switch (listingOf f) ts at places a w)
+
+  module _ (one : (f : ℕ) → OneLength (listingOf f)) where
+    answers : (f : ℕ) (es : Trees) (ts : List ℕ) (at : ℕ)
+        → Answers switch (listingOf f) ts at (starts es (inside at)) (resolve switch (listingOf f) ts)
+    answers f es ts at = resolve-answers switch (listingOf f) ts at (starts es (inside at)) (one f)
+
+    call-means : (f at : ℕ) (es : Trees) (x : Operands) → MeansAll es (inside at) x
+        → Means (call f es) at (concludeCall listingOf switch f at (starts es (inside at)) x)
+    call-means f at es (refusedAmong why) h = failsInside h
+    call-means f at es (operands ts ls) g = conclude-means f at es ts ls g (resolve switch (listingOf f) ts) (answers f es ts at)
+
+    -- from the answer to its meaning
+    mutual
+      unfolding typeOf
+
+      pub means : (e : Tree) (at : ℕ) → Means e at (typeOf listingOf switch e at)
+      means (leaf l) at = leafGives
+      means (call f es) at = call-means f at es (typeAll listingOf switch es (inside at)) (means-all es (inside at))
+
+      means-all : (es : Trees) (at : ℕ) → MeansAll es at (typeAll listingOf switch es at)
+      means-all none at = noneGive
+      means-all (more e es) at =
+          before-means e es at (typeOf listingOf switch e at) (typeAll listingOf switch es (behind e at))
+          (means e at) (means-all es (behind e at))
+
+    -- and back
+    mutual
+      unfolding typeOf
+
+      pub gives-typed : (e : Tree) {t : ℕ} {ls : List Line} → Gives listingOf switch e t ls → (at : ℕ)
+          → typeOf listingOf switch e at ≡ typed t ls
+      gives-typed (leaf l) leafGives at = refl
+      gives-typed (call f es) (callGives {i = i} {ts = ts} {ls = ls} {r = r} g b) at =
+          rw (give-operands es g (inside at))
+          (conclude-best f at (starts es (inside at)) ts ls (one f) i r b (resolve switch (listingOf f) ts) (answers f es ts at))
+
+      give-operands : (es : Trees) {ts : List ℕ} {ls : List Line} → GiveAll listingOf switch es ts ls
+          → (at : ℕ) → typeAll listingOf switch es at ≡ operands ts ls
+      give-operands none noneGive at = refl
+      give-operands (more e es) (moreGive g h) at = rw (gives-typed e g at, give-operands es h (behind e at))
+
+    mutual
+      unfolding typeOf
+
+      pub fails-refused : (e : Tree) {at : ℕ} {why : Refusal} → Fails listingOf switch e at why
+          → typeOf listingOf switch e at ≡ refused why
+      fails-refused (call f es) (failsInside h) = rw (fail-among es h)
+      fails-refused (call f es) (failsHere {at = at} {ts = ts} {ls = ls} g w) =
+          rw (give-operands es g (inside at))
+          (conclude-fault f at (starts es (inside at)) ts ls (one f) w (resolve switch (listingOf f) ts) (answers f es ts at))
+
+      fail-among : (es : Trees) {at : ℕ} {why : Refusal} → FailsAmong listingOf switch es at why
+          → typeAll listingOf switch es at ≡ refusedAmong why
+      fail-among (more e es) (failsFirst h) = rw (fails-refused e h)
+      fail-among (more e es) (failsLater {at = at} g h) = rw (gives-typed e g at, fail-among es h)
+
+    -- what fails is stuck, and what is stuck gives nothing
+    mutual
+      pub fails-stuck : (e : Tree) {at : ℕ} {why : Refusal} → Fails listingOf switch e at why → Stuck listingOf switch e
+      fails-stuck (call f es) (failsInside h) = atArgument (fails-stuck-among es h)
+      fails-stuck (call f es) (failsHere {at = at} {ts = ts} g w) =
+          atCall g (fault-no-rule switch (listingOf f) ts at (starts es (inside at)) (one f) w)
+
+      fails-stuck-among : (es : Trees) {at : ℕ} {why : Refusal} → FailsAmong listingOf switch es at why → StuckAmong listingOf switch es
+      fails-stuck-among (more e es) (failsFirst h) = firstStuck (fails-stuck e h)
+      fails-stuck-among (more e es) (failsLater g h) = laterStuck (fails-stuck-among es h)
+
+    operands-one : (es : Trees) {ts ts′ : List ℕ} {ls ls′ : List Line} → GiveAll listingOf switch es ts ls
+        → GiveAll listingOf switch es ts′ ls′
+        → ts ≡ ts′
+    operands-one es g g′ = let a = give-operands es g 0 in let b = give-operands es g′ 0 in cc
+
+    no-rule-for : (f : ℕ) (es : Trees) {ts ts′ : List ℕ} {ls ls′ : List Line} {i : ℕ} {r : Signature}
+        → GiveAll listingOf switch es ts ls
+        → Best switch (listingOf f) ts i r → GiveAll listingOf switch es ts′ ls′ → NoRule switch (listingOf f) ts′ → ⊥
+    unfolding NoRule
+    no-rule-for f es {i = i} {r = r} g b g′ no-rule = no-rule i r (b .there) (rw (operands-one es g g′) at (b .taken))
+
+    mutual
+      pub not-both : (e : Tree) {t : ℕ} {ls : List Line} → Gives listingOf switch e t ls → Stuck listingOf switch e → ⊥
+      not-both (call f es) (callGives g b) (atArgument s) = not-both-among es g s
+      not-both (call f es) (callGives g b) (atCall g′ n) = no-rule-for f es g b g′ n
+
+      not-both-among : (es : Trees) {ts : List ℕ} {ls : List Line} → GiveAll listingOf switch es ts ls
+          → StuckAmong listingOf switch es → ⊥
+      not-both-among (more e es) (moreGive g h) (firstStuck s) = not-both e g s
+      not-both-among (more e es) (moreGive g h) (laterStuck s) = not-both-among es h s

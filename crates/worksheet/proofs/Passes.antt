@@ -1,0 +1,284 @@
+-- The second pass, by what stands at an offset: one law for each way through `type_node` and `type_arguments`, so that the functions'
+-- proofs only cite it.
+-- Rests on the database only by the laws of proofs/Database.antt. Assumes nothing.
+use mathlib.Core.Path.{_≡_, refl, sym, ap, subst, _∙_}
+use mathlib.Core.Bool.{Bool}
+use mathlib.Core.List.{List, [], _∷_, _++_, append-assoc}
+use Prim.Native.Nat.{ℕ, _+_, _-_, _*_, _≤_, _<_}
+use native.Mathlib.Omega.{arith}
+use lib.ListN.{length, getD, drop, length-append}
+use Rattle.overloads.specs.Choice.{Choice, chosen, wrongCount, noneAfter, noneConcrete, resolve}
+use Rattle.overloads.specs.Functions.{functionCount, listingOf}
+use Rattle.domain.specs.declared.refusal.Refusal.{Refusal}
+use Rattle.worksheet.specs.declared.sheet.Sheet.{Sheet}
+use Rattle.worksheet.specs.declared.stack.Stack.{Stack}
+use Rattle.worksheet.specs.declared.progress.Progress.{Progress}
+use Rattle.worksheet.specs.declared.progress.Verdict.{Verdict}
+use Rattle.worksheet.specs.declared.progress.Verdict.the-variants.{Clean, Wrong}
+use Rattle.worksheet.specs.Tree.{Tree, Trees, leaf, call, none, more, count, bytesOf, bytesOfAll, nodes, nodesAll, Known, KnownAll}
+use Rattle.worksheet.specs.Line.{Line, leafMark, callLines, encode}
+use Rattle.worksheet.specs.Machine.{mostOperands}
+use Rattle.worksheet.specs.Answer.{enoughBytes}
+use Rattle.worksheet.specs.Places.{inside, behind, starts}
+use Rattle.worksheet.specs.Typer.{Typed, typed, refused, Operands, operands, refusedAmong, before, conclude, concludeCall, typeOf, typeAll}
+use Rattle.worksheet.specs.Sheet.{Wrote}
+use Rattle.worksheet.specs.Stack.{typesOn, startsOn, Full, Pushed}
+use Rattle.worksheet.specs.SecondPass.{Went, CallThere, CallClaim, CallTyped, NodeThere, NodeClaim, NodeTyped, ArgsThere, ArgsClaim, ArgsTyped}
+use Rattle.worksheet.proofs.Bytes.{after, leaf-there, call-there, bytes-least}
+use Rattle.worksheet.proofs.LineBytes.{encode-append}
+use Rattle.worksheet.proofs.Room.{four-each}
+use Rattle.worksheet.proofs.Written.{wrote-nothing, wrote-both, wrote-as}
+use Rattle.worksheet.proofs.Pushes.{pushed-nothing, pushed-both, pushed-full}
+use Rattle.worksheet.proofs.Typings.{Sized, sized, SizedAll, sized-all, starts-many, nodes-least, count-nodes}
+
+-- a verdict cannot be both
+clash : {A : Type 0} {v : Verdict} {why : Refusal} → v ≡ Clean → v ≡ Wrong why → A
+clash p q = let z : _≡_ {A = ℕ} 0 1 = cc in absurd (omega arith)
+
+abbrev clean : ℕ → Stack → Sheet → Progress
+clean at s h = record { verdict = Clean; at = at; stack = s; sheet = h }
+
+module _ (b : List ℕ) (at : ℕ) (s : Stack) (h : Sheet) where
+  pub two-bytes : NodeThere b at s h → at + 1 < length b
+  two-bytes n = go (n .tree) (n .text)
+    where
+      go : (e : Tree) → drop at b ≡ bytesOf e ++ n .tail → at + 1 < length b
+      go (leaf l) t = leaf-there b at l (n .tail) t .here
+      go (call f es) t = let k = call-there b at f es (n .tail) t in omega (arith, k .here)
+
+  pub room : NodeThere b at s h → (s .top < mostOperands) × (h .len + 4 ≤ enoughBytes)
+  room n = let p = nodes-least (n .tree) in (omega (arith, n .stack-room), omega (arith, n .sheet-room))
+
+  -- a leaf
+  pub leaf-typed : (switch : Bool) (s′ : Stack) (h′ : Sheet) → getD b at 0 ≡ 0 → Pushed s (getD b (at + 1) 0 ∷ []) (at ∷ []) s′
+      → Wrote h (leafMark ∷ getD b (at + 1) 0 ∷ 0 ∷ 0 ∷ []) h′ → NodeTyped b at switch s h (clean (at + 2) s′ h′)
+  unfolding NodeTyped typeOf bytesOf encode
+  leaf-typed switch s′ h′ tag p w (leaf l) tail t k =
+      let there = leaf-there b at l tail t in
+      record {
+        verdict-is = refl;
+        at-is = refl;
+        pushed = rw (there .type-is) at p;
+        wrote = rw (there .type-is) at w;
+      }
+  leaf-typed switch s′ h′ tag p w (call f es) tail t k = absurd (omega (arith, call-there b at f es tail t .tag))
+
+  module _ (no-leaf : getD b at 0 ≡ 0 → ⊥) where
+    pub three-bytes : NodeThere b at s h → at + 2 < length b
+    three-bytes n = go (n .tree) (n .text)
+      where
+        go : (e : Tree) → drop at b ≡ bytesOf e ++ n .tail → at + 2 < length b
+        go (leaf l) t = absurd (no-leaf (leaf-there b at l (n .tail) t .tag))
+        go (call f es) t = call-there b at f es (n .tail) t .here
+
+    pub args-there : NodeThere b at s h → ArgsThere b (at + 3) (getD b (at + 2) 0) s h
+    unfolding nodes Known
+    args-there n = go (n .tree) (n .text) (n .known) (n .stack-room) (n .sheet-room)
+      where
+        go : (e : Tree) → drop at b ≡ bytesOf e ++ n .tail → Known functionCount e → s .top + nodes e ≤ mostOperands
+            → h .len + 8 * nodes e ≤ enoughBytes + 4
+            → ArgsThere b (at + 3) (getD b (at + 2) 0) s h
+        go (leaf l) t k u v = absurd (no-leaf (leaf-there b at l (n .tail) t .tag))
+        go (call f es) t k u v =
+            let there = call-there b at f es (n .tail) t in
+            record {
+              trees = es;
+              tail = n .tail;
+              many = sym (there .number);
+              text = there .arguments;
+              known = k .1;
+              full = n .full;
+              stack-room = omega arith;
+              sheet-room = omega arith;
+            }
+
+    module _ (switch : Bool) (i : Progress) (inner : ArgsTyped b (at + 3) (getD b (at + 2) 0) switch s h i) where
+      -- a fault among the arguments
+      pub call-wrong : (why : Refusal) → i .verdict ≡ Wrong why → NodeTyped b at switch s h i
+      unfolding NodeTyped ArgsTyped typeOf Known
+      call-wrong why w (leaf l) tail t k = absurd (no-leaf (leaf-there b at l tail t .tag))
+      call-wrong why w (call f es) tail t k =
+          let there = call-there b at f es tail t in
+          go (typeAll listingOf switch es (inside at)) (inner es tail (sym (there .number)) (there .arguments) (k .1))
+        where
+          go : (x : Operands) → ArgsClaim es (inside at) s h i x
+              → NodeClaim (call f es) at s h i (concludeCall listingOf switch f at (starts es (inside at)) x)
+          go (refusedAmong why′) c = c
+          go (operands ts ls) c = clash (c .verdict-is) w
+
+      module _ (w : i .verdict ≡ Clean) where
+        -- the operands are on the stack, with room for the call's lines
+        pub call-room : NodeThere b at s h → CallThere (getD b (at + 2) 0) (i .stack) (i .sheet)
+        unfolding ArgsTyped nodes Known
+        call-room n = go (n .tree) (n .text) (n .known) (n .stack-room) (n .sheet-room)
+          where
+            among : (f : ℕ) (es : Trees) → getD b (at + 2) 0 ≡ count es → s .top + nodes (call f es) ≤ mostOperands
+                → h .len + 8 * nodes (call f es) ≤ enoughBytes + 4
+                → (x : Operands) → ArgsClaim es (inside at) s h i x → SizedAll es x → CallThere (getD b (at + 2) 0) (i .stack) (i .sheet)
+            among f es m u v (refusedAmong why) c z = clash w c
+            among f es m u v (operands ts ls) c z =
+                let top = c .pushed .top-is in
+                let len = c .wrote .len-is in
+                let four = four-each ls in
+                let few = z .few in
+                let many = z .many in
+                let nodes-few = count-nodes es in
+                record { enough = omega arith; bounded = omega arith; room = omega arith }
+
+            go : (e : Tree) → drop at b ≡ bytesOf e ++ n .tail → Known functionCount e → s .top + nodes e ≤ mostOperands
+                → h .len + 8 * nodes e ≤ enoughBytes + 4
+                → CallThere (getD b (at + 2) 0) (i .stack) (i .sheet)
+            go (leaf l) t k u v = absurd (no-leaf (leaf-there b at l (n .tail) t .tag))
+            go (call f es) t k u v =
+                let there = call-there b at f es (n .tail) t in
+                among f es (there .number) u v (typeAll listingOf switch es (inside at))
+                (inner es (n .tail) (sym (there .number)) (there .arguments) (k .1)) (sized-all switch es (inside at) (k .1))
+
+        -- what is concluded of the operands
+        concluded : (f : ℕ) (es : Trees) (ts : List ℕ) (ls : List Line) (r : Progress) → Full s
+            → Went (inside at + length (bytesOfAll es)) ts (starts es (inside at)) ls s h i
+            → (c : Choice) → CallClaim at (i .at) (typesOn s) (startsOn s) (i .sheet) r (conclude f at (starts es (inside at)) ts [] c)
+            → NodeClaim (call f es) at s h r (conclude f at (starts es (inside at)) ts ls c)
+        unfolding bytesOf
+        concluded f es ts ls r full g (chosen j rule) c = record {
+          verdict-is = c .verdict-is;
+          at-is = omega (arith, c .at-is, g .at-is);
+          pushed = record { types-are = c .types-are; starts-are = c .starts-are; top-is = omega (arith, c .top-is, full .types-full) };
+          wrote = wrote-as (sym (encode-append ls (callLines f j ts rule))) (wrote-both (g .wrote) (c .wrote));
+        }
+        concluded f es ts ls r full g wrongCount c = c
+        concluded f es ts ls r full g (noneAfter k) c = c
+        concluded f es ts ls r full g noneConcrete c = c
+
+        pub call-typed : NodeThere b at s h → (r : Progress)
+            → CallTyped (getD b (at + 1) 0) (getD b (at + 2) 0) at (i .at) switch (i .stack) (i .sheet) r → NodeTyped b at switch s h r
+        unfolding NodeTyped ArgsTyped CallTyped typeOf Known
+        call-typed n r made (leaf l) tail t k = absurd (no-leaf (leaf-there b at l tail t .tag))
+        call-typed n r made (call f es) tail t k =
+            let there = call-there b at f es tail t in
+            go (there .function) (there .number) (typeAll listingOf switch es (inside at))
+            (inner es tail (sym (there .number)) (there .arguments) (k .1)) (sized-all switch es (inside at) (k .1))
+          where
+            go : getD b (at + 1) 0 ≡ f → getD b (at + 2) 0 ≡ count es
+                → (x : Operands) → ArgsClaim es (inside at) s h i x → SizedAll es x
+                → NodeClaim (call f es) at s h r (concludeCall listingOf switch f at (starts es (inside at)) x)
+            go fe ne (refusedAmong why) c z = clash w c
+            go fe ne (operands ts ls) c z =
+                let full = n .full in
+                let top = c .pushed .top-is in
+                let many = z .many in
+                let placed = starts-many es (inside at) in
+                let a = full .types-full in
+                let d = full .starts-full in
+                concluded f es ts ls r full c (resolve switch (listingOf f) ts)
+                (rw fe at made (typesOn s) ts (startsOn s) (starts es (inside at)) (c .pushed .types-are) (c .pushed .starts-are)
+                (omega arith) (omega arith)
+                (omega arith) (omega arith) (omega (arith, k .0)) (z .known))
+
+module _ (b : List ℕ) (at left : ℕ) (switch : Bool) (s : Stack) (h : Sheet) where
+  pub args-none : left ≡ 0 → ArgsTyped b at left switch s h (clean at s h)
+  unfolding ArgsTyped typeOf bytesOf starts count encode
+  args-none e none tail m t k = record { verdict-is = refl; at-is = omega arith; pushed = pushed-nothing s; wrote = wrote-nothing h }
+  args-none e (more x es) tail m t k = absurd (omega arith)
+
+  module _ (some : left ≡ 0 → ⊥) where
+    pub node-there : ArgsThere b at left s h → NodeThere b at s h
+    unfolding bytesOf nodes count Known
+    node-there n = go (n .trees) (n .many) (n .text) (n .known) (n .stack-room) (n .sheet-room)
+      where
+        go : (es : Trees) → count es ≡ left → drop at b ≡ bytesOfAll es ++ n .tail → KnownAll functionCount es
+            → s .top + nodesAll es < mostOperands → h .len + 8 * nodesAll es + 4 ≤ enoughBytes → NodeThere b at s h
+        go none m t k u v = absurd (some (sym m))
+        go (more e es) m t k u v = record {
+          tree = e;
+          tail = bytesOfAll es ++ n .tail;
+          text = t ∙ append-assoc (bytesOf e) (bytesOfAll es) (n .tail);
+          known = k .0;
+          full = n .full;
+          stack-room = omega arith;
+          sheet-room = omega arith;
+        }
+
+    module _ (i : Progress) (one : NodeTyped b at switch s h i) where
+      -- a fault in the first argument
+      pub args-wrong : (why : Refusal) → i .verdict ≡ Wrong why → ArgsTyped b at left switch s h i
+      unfolding NodeTyped ArgsTyped typeOf bytesOf count Known
+      args-wrong why w none tail m t k = absurd (some (sym m))
+      args-wrong why w (more e es) tail m t k =
+          go (typeOf listingOf switch e at) (typeAll listingOf switch es (behind e at))
+          (one e (bytesOfAll es ++ tail) (t ∙ append-assoc (bytesOf e) (bytesOfAll es) tail) (k .0))
+        where
+          go : (x : Typed) (y : Operands) → NodeClaim e at s h i x → ArgsClaim (more e es) at s h i (before x y)
+          go (refused why′) y c = c
+          go (typed u ls) y c = clash (c .verdict-is) w
+
+      module _ (w : i .verdict ≡ Clean) where
+        pub next-there : ArgsThere b at left s h
+            → ArgsThere b (i .at) (left - 1) (i .stack) (i .sheet) × (at < i .at) × (at < length b)
+        unfolding NodeTyped bytesOf nodes count Known
+        next-there n = go (n .trees) (n .many) (n .text) (n .known) (n .stack-room) (n .sheet-room)
+          where
+            behind-it : (e : Tree) (es : Trees) → count (more e es) ≡ left → drop at b ≡ bytesOf e ++ (bytesOfAll es ++ n .tail)
+                → KnownAll functionCount es → s .top + nodesAll (more e es) < mostOperands
+                → h .len + 8 * nodesAll (more e es) + 4 ≤ enoughBytes
+                → (x : Typed) → NodeClaim e at s h i x → Sized e x
+                → ArgsThere b (i .at) (left - 1) (i .stack) (i .sheet) × (at < i .at) × (at < length b)
+            behind-it e es m t k u v (refused why) c z = clash w c
+            behind-it e es m t k u v (typed y ls) c z =
+                let top = c .pushed .top-is in
+                let len = c .wrote .len-is in
+                let four = four-each ls in
+                let few = z .few in
+                let next = c .at-is in
+                let least = nodes-least e in
+                let long = bytes-least e in
+                let here = two-bytes b at s h (node-there n) in (
+                  record {
+                    trees = es;
+                    tail = n .tail;
+                    many = omega arith;
+                    text = ap (λ j. drop j b) (c .at-is) ∙ after b (bytesOf e) (bytesOfAll es ++ n .tail) at t;
+                    known = k;
+                    full = pushed-full (n .full) refl (c .pushed);
+                    stack-room = omega arith;
+                    sheet-room = omega arith;
+                  },
+                  omega arith,
+                  omega arith,
+                )
+
+            go : (es : Trees) → count es ≡ left → drop at b ≡ bytesOfAll es ++ n .tail → KnownAll functionCount es
+                → s .top + nodesAll es < mostOperands → h .len + 8 * nodesAll es + 4 ≤ enoughBytes
+                → ArgsThere b (i .at) (left - 1) (i .stack) (i .sheet) × (at < i .at) × (at < length b)
+            go none m t k u v = absurd (some (sym m))
+            go (more e es) m t k u v =
+                let t′ : drop at b ≡ bytesOf e ++ (bytesOfAll es ++ n .tail) = t ∙ append-assoc (bytesOf e) (bytesOfAll es) (n .tail) in
+                behind-it e es m t′ (k .1) u v (typeOf listingOf switch e at) (one e (bytesOfAll es ++ n .tail) t′ (k .0))
+                (sized switch e at (k .0))
+
+        -- one argument and those behind it
+        both-went : (e : Tree) (es : Trees) (t : ℕ) (ls : List Line) (r : Progress) → Went (behind e at) (t ∷ []) (at ∷ []) ls s h i
+            → (y : Operands) → ArgsClaim es (behind e at) (i .stack) (i .sheet) r y → ArgsClaim (more e es) at s h r (before (typed t ls) y)
+        unfolding bytesOf starts
+        both-went e es t ls r g (refusedAmong why) c = c
+        both-went e es t ls r g (operands ts ls′) c = record {
+          verdict-is = c .verdict-is;
+          at-is = omega (arith, c .at-is, length-append (bytesOf e) (bytesOfAll es));
+          pushed = pushed-both (g .pushed) (c .pushed);
+          wrote = wrote-as (sym (encode-append ls ls′)) (wrote-both (g .wrote) (c .wrote));
+        }
+
+        pub args-typed : (r : Progress) → ArgsTyped b (i .at) (left - 1) switch (i .stack) (i .sheet) r → ArgsTyped b at left switch s h r
+        unfolding NodeTyped ArgsTyped typeOf bytesOf count Known
+        args-typed r rest none tail m t k = absurd (some (sym m))
+        args-typed r rest (more e es) tail m t k =
+            let t′ : drop at b ≡ bytesOf e ++ (bytesOfAll es ++ tail) = t ∙ append-assoc (bytesOf e) (bytesOfAll es) tail in
+            go t′ (typeOf listingOf switch e at) (one e (bytesOfAll es ++ tail) t′ (k .0))
+          where
+            go : drop at b ≡ bytesOf e ++ (bytesOfAll es ++ tail) → (x : Typed) → NodeClaim e at s h i x
+                → ArgsClaim (more e es) at s h r (before x (typeAll listingOf switch es (behind e at)))
+            go t′ (refused why) c = clash w c
+            go t′ (typed u ls) c =
+                both-went e es u ls r c (typeAll listingOf switch es (behind e at))
+                (subst (λ j. ArgsClaim es j (i .stack) (i .sheet) r (typeAll listingOf switch es j)) (c .at-is)
+                (rest es tail (omega arith) (ap (λ j. drop j b) (c .at-is) ∙ after b (bytesOf e) (bytesOfAll es ++ tail) at t′) (k .1)))

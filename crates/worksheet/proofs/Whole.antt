@@ -1,0 +1,115 @@
+-- The whole answer: a fault of the first pass, or what the second pass makes of the tree that the first one accepted.
+-- Rests on the database only by the laws of proofs/Database.antt. Assumes nothing.
+use mathlib.Core.Path.{_≡_, refl, sym, ap, _∙_}
+use mathlib.Core.Bool.{Bool}
+use mathlib.Core.List.{List, [], _∷_, _++_, append-nil}
+use Prim.Native.Nat.{ℕ, _+_, _≤_, _<_}
+use native.Mathlib.Omega.{arith}
+use native.Mathlib.Decide.{decLt}
+use borrow.Author.Tests.{lt-ltb, le-ltb, lt-leb, le-leb}
+use lib.ListN.{length, getD, take, drop}
+use lib.Seq.{getD-take}
+use Rattle.overloads.specs.Functions.{functionCount, listingOf}
+use Rattle.domain.specs.declared.refusal.Refusal.{Refusal}
+use Rattle.worksheet.specs.declared.sheet.Sheet.{Sheet}
+use Rattle.worksheet.specs.declared.stack.Stack.{Stack}
+use Rattle.worksheet.specs.declared.expression.Read.the-variants as reading
+use Rattle.worksheet.specs.declared.progress.Progress.{Progress}
+use Rattle.worksheet.specs.declared.progress.Verdict.the-variants.{Clean}
+use Rattle.worksheet.specs.declared.typer.TypeAnswer.{TypeAnswer}
+use Rattle.worksheet.specs.declared.typer.TypeAnswer.the-variants as answers
+use Rattle.worksheet.specs.Tree.{Tree, bytesOf, WellFormed}
+use Rattle.worksheet.specs.Reading.{read, expressionOf}
+use Rattle.worksheet.specs.FirstPass.{readOf}
+use Rattle.worksheet.specs.Line.{Line, encode}
+use Rattle.worksheet.specs.Typer.{Typed, typed, refused, typeOf}
+use Rattle.worksheet.specs.Answer.{enoughBytes, withRoom, answer, bufferAfter}
+use Rattle.worksheet.specs.Typing.{typingOf, typing, answerOf}
+use Rattle.worksheet.specs.Sheet.{written, placed}
+use Rattle.worksheet.specs.Stack.{typesOn}
+use Rattle.worksheet.specs.SecondPass.{NodeThere, NodeClaim, NodeTyped, SheetFits, verdictAnswer, rootAnswer, rootBuffer}
+use Rattle.worksheet.proofs.AcceptsExactly.{accepts-only}
+use Rattle.worksheet.proofs.Answers.{accepted-tree, refused-fault}
+use Rattle.worksheet.proofs.Room.{four-each}
+use Rattle.worksheet.proofs.Pushes.{empty-full}
+use Rattle.worksheet.proofs.Typings.{Sized, sized}
+use Rattle.worksheet.proofs.Written.{placed-short, placed-fits}
+
+-- an answer and a buffer that are those of a typing
+abbrev Answered : List ℕ → Typed → TypeAnswer → List ℕ → Type 0
+Answered d x a d′ = (a ≡ answerOf x) × (d′ ≡ bufferAfter x d)
+
+-- the room comes last
+with-room : (d : List ℕ) (t : ℕ) (ls : List Line) (result needed : ℕ) (bs : List ℕ)
+    → result ≡ t → bs ≡ encode ls → needed ≡ length (encode ls)
+    → Answered d (withRoom d (typed t ls)) (verdictAnswer result needed (length d) Clean) (placed bs d)
+with-room d t ls result needed bs re be ne = go (decLt (length d) (length (encode ls)))
+  where
+    go : Dec (length d < length (encode ls))
+        → Answered d (withRoom d (typed t ls)) (verdictAnswer result needed (length d) Clean) (placed bs d)
+    go (yes h) =
+        rw (re, be, ne, lt-ltb (length d) (length (encode ls)) h, lt-leb (length (encode ls)) (length d) h)
+        (refl, placed-short (encode ls) d h)
+    go (no h) =
+        let k : length (encode ls) ≤ length d = omega arith in
+        rw (re, be, ne, le-ltb (length d) (length (encode ls)) k, le-leb (length (encode ls)) (length d) k)
+        (refl, placed-fits (encode ls) d (length (encode ls)) refl k)
+
+module _ (switch : Bool) (s d : List ℕ) where
+  pub first-fault : (why : Refusal) → reading.Refused why ≡ readOf (expressionOf functionCount s)
+      → Answered d (typing switch s d) (answers.Refused why) d
+  unfolding typingOf
+  first-fault why e = rw (refused-fault (expressionOf functionCount s) why e) (refl, refl)
+
+  module _ (n : ℕ) (ok : reading.Accepted n ≡ readOf (expressionOf functionCount s)) where
+    tree : (e : Tree) × (expressionOf functionCount s ≡ read e) × (drop 0 s ≡ bytesOf e ++ []) × WellFormed functionCount e
+    tree =
+        let (e, x, m) = accepted-tree (expressionOf functionCount s) n ok in
+        let (text, formed) = accepts-only functionCount s e x in
+        (e, x, text ∙ sym (append-nil (bytesOf e)), formed)
+
+    module _ (st : Stack) (h : Sheet) (top : st .top ≡ 0) (len : h .len ≡ 0) where
+      pub root-there : NodeThere s 0 st h
+      root-there =
+          let (e, x, text, formed) = tree in
+          record {
+            tree = e;
+            tail = [];
+            text = text;
+            known = formed .known;
+            full = empty-full st top;
+            stack-room = omega (arith, formed .few);
+            sheet-room = omega (arith, formed .few);
+          }
+
+      module _ (r : Progress) (done : NodeTyped s 0 switch st h r) where
+        claim : (e : Tree) → drop 0 s ≡ bytesOf e ++ [] → WellFormed functionCount e → NodeClaim e 0 st h r (typeOf listingOf switch e 0)
+        unfolding NodeTyped
+        claim e text formed = done e [] text (formed .known)
+
+        pub root-fits : SheetFits r
+        root-fits clean =
+            let (e, x, text, formed) = tree in
+            go e formed (typeOf listingOf switch e 0) (claim e text formed) (sized switch e 0 (formed .known))
+          where
+            go : (e : Tree) → WellFormed functionCount e → (x : Typed) → NodeClaim e 0 st h r x → Sized e x → r .sheet .len ≤ enoughBytes
+            go e formed (refused why) c z = let w : _≡_ {A = ℕ} 0 1 = cc in absurd (omega arith)
+            go e formed (typed t ls) c z = omega (arith, c .wrote .len-is, four-each ls, z .few, formed .few)
+
+        -- the second pass is the typing of the tree, without the room
+        typed-root : (e : Tree) (x : Typed) → NodeClaim e 0 st h r x → Answered d (withRoom d x) (rootAnswer r (length d)) (rootBuffer r d)
+        typed-root e (refused why) c = rw c (refl, refl)
+        typed-root e (typed t ls) c =
+            let types : typesOn (r .stack) ≡ t ∷ [] = c .pushed .types-are ∙ ap (λ i. take i (st .types) ++ (t ∷ [])) top in
+            let here : 0 < r .stack .top = omega (arith, c .pushed .top-is) in
+            let result : getD (r .stack .types) 0 0 ≡ t =
+            sym (getD-take (r .stack .top) (r .stack .types) 0 0 here) ∙ ap (λ l. getD l 0 0) types in
+            let bytes : written (r .sheet) ≡ encode ls = c .wrote .bytes-are ∙ ap (λ i. take i (h .bytes) ++ encode ls) len in
+            let long : r .sheet .len ≡ length (encode ls) = omega (arith, c .wrote .len-is) in
+            rw (c .verdict-is) (with-room d t ls (getD (r .stack .types) 0 0) (r .sheet .len) (written (r .sheet)) result bytes long)
+
+        pub root-answer : Answered d (typing switch s d) (rootAnswer r (length d)) (rootBuffer r d)
+        unfolding typingOf answer
+        root-answer =
+            let (e, x, text, formed) = tree in
+            rw x (typed-root e (typeOf listingOf switch e 0) (claim e text formed))

@@ -1,0 +1,45 @@
+-- 'Answers by number', 5, 6 and 1 in an expression: which call is at fault, what is wrong there, and the place.
+use mathlib.Core.Path.{_≡_}
+use mathlib.Core.Bool.{Bool, true}
+use mathlib.Core.List.{List}
+use mathlib.Core.Option.{some}
+use Prim.Native.Nat.{ℕ, _≤_, _<_}
+use lib.ListN.{length, getD, getElem?}
+use Rattle.overloads.specs.Signature.{Signature, reaches}
+use Rattle.overloads.specs.Choice.{longest}
+use Rattle.domain.specs.declared.refusal.Refusal.{Refusal}
+use Rattle.domain.specs.declared.refusal.Refusal.the-variants.{EmptySet, WrongCount, NoRuleLeft}
+use Rattle.worksheet.specs.Tree.{Tree, Trees, call, more}
+use Rattle.worksheet.specs.Places.{inside, behind, starts}
+use Rattle.worksheet.specs.Line.{Line}
+use Rattle.worksheet.specs.Meaning.{NoRule, Gives, GiveAll}
+
+-- a rule is left after operand k: it has that argument, and takes this operand and those before it
+pub record LeftAfter (rules : List Signature) (ts : List ℕ) (k : ℕ) : Type 0 where
+  pub index : ℕ
+  pub rule : Signature
+  pub there : getElem? rules index ≡ some rule
+  pub long : k < length (rule .arguments)
+  pub reached : (j : ℕ) → j ≤ k → reaches (getD ts j 0) (getD (rule .arguments) j 0) ≡ true
+
+-- what is wrong with a call of these operands: their number (5); the first of them after which no rule is left (6); or, with a rule
+-- left after each, that none takes them all, as when the concrete-only step leaves no rule (1)
+pub data Fault (switch : Bool) (rules : List Signature) (ts : List ℕ) (at : ℕ) (places : List ℕ) : Refusal → Type 0 where
+  wrongNumber : (length ts ≡ longest rules → ⊥) → Fault switch rules ts at places (WrongCount at)
+  noneLeft : {k : ℕ} → length ts ≡ longest rules → k < length ts → ((j : ℕ) → j < k → LeftAfter rules ts j) → (LeftAfter rules ts k → ⊥)
+      → Fault switch rules ts at places (NoRuleLeft (getD places k 0))
+  noneTakes : length ts ≡ longest rules → ((j : ℕ) → j < length ts → LeftAfter rules ts j) → NoRule switch rules ts
+      → Fault switch rules ts at places (EmptySet at)
+
+module _ (listingOf : ℕ → List Signature) (switch : Bool) where
+  -- an expression whose first byte is at this offset fails so: arguments before their call, left to right
+  mutual
+    pub data Fails : Tree → ℕ → Refusal → Type 0 where
+      failsInside : {f at : ℕ} {es : Trees} {why : Refusal} → FailsAmong es (inside at) why → Fails (call f es) at why
+      failsHere : {f at : ℕ} {es : Trees} {ts : List ℕ} {ls : List Line} {why : Refusal} → GiveAll listingOf switch es ts ls
+          → Fault switch (listingOf f) ts at (starts es (inside at)) why → Fails (call f es) at why
+
+    pub data FailsAmong : Trees → ℕ → Refusal → Type 0 where
+      failsFirst : {e : Tree} {es : Trees} {at : ℕ} {why : Refusal} → Fails e at why → FailsAmong (more e es) at why
+      failsLater : {e : Tree} {es : Trees} {at t : ℕ} {ls : List Line} {why : Refusal} → Gives listingOf switch e t ls
+          → FailsAmong es (behind e at) why → FailsAmong (more e es) at why

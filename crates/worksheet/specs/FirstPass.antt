@@ -1,0 +1,32 @@
+-- What the functions of src/expression.rt answer. They build no tree: each answers what the definition of the first pass reads,
+-- with the tree left out.
+use Prim.Native.Nat.{ℕ, suc, _-_}
+use Rattle.worksheet.specs.declared.expression.Step.{Step}
+use Rattle.worksheet.specs.declared.expression.Step.the-variants.{Past, Fault}
+use Rattle.worksheet.specs.declared.expression.Read.{Read}
+use Rattle.worksheet.specs.declared.expression.Read.the-variants.{Accepted, Refused}
+use Rattle.worksheet.specs.Tree.{nodes, deepest}
+use Rattle.worksheet.specs.Reading.{Reading, done, refused, Readings, allDone, stopped, Expression, read, refusedAs}
+
+-- the number of functions, Abs 0 to InsertBits 78
+abbrev pub functionsKnown : ℕ
+functionsKnown = 79
+
+-- where a node's reading got to
+abbrev pub stepOf : Reading → Step
+stepOf (done e at nodes) = Past at nodes
+stepOf (refused fault) = Fault fault
+
+-- where the reading of arguments got to
+abbrev pub stepOfAll : Readings → Step
+stepOfAll (allDone es at nodes) = Past at nodes
+stepOfAll (stopped fault) = Fault fault
+
+-- the levels that a node at this depth may have, its own included; the root's depth is 1
+abbrev pub levelsLeft : ℕ → ℕ
+levelsLeft depth = suc deepest - depth
+
+-- an expression's number of nodes, or the fault
+abbrev pub readOf : Expression → Read
+readOf (read e) = Accepted (nodes e)
+readOf (refusedAs fault) = Refused fault

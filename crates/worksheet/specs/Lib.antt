@@ -1,0 +1,17 @@
+pub mod Tree
+pub mod Reading
+pub mod FirstPass
+pub mod Line
+pub mod Machine
+pub mod TopLast
+pub mod Places
+pub mod Typer
+pub mod Answer
+pub mod Meaning
+pub mod Fault
+pub mod Sheet
+pub mod Stack
+pub mod Typing
+pub mod SecondPass
+pub mod Run
+pub mod MachineStack

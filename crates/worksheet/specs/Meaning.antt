@@ -1,0 +1,77 @@
+-- What it means that an expression is typed, or that it is stuck, apart from the steps that find it out.
+use mathlib.Core.Path.{_≡_}
+use mathlib.Core.Bool.{Bool, true}
+use mathlib.Core.List.{List, [], _∷_, _++_}
+use mathlib.Core.Option.{some}
+use Prim.Native.Nat.{ℕ, _<_}
+use lib.ListN.{length, getD, getElem?}
+use Rattle.overloads.specs.Signature.{Signature, reaches, concrete}
+use Rattle.overloads.specs.Choice.{longest}
+use Rattle.worksheet.specs.Tree.{Leaf, Tree, Trees, leaf, call, none, more, count}
+use Rattle.worksheet.specs.Line.{Line, leafLine, conversionLine, callLine, callLines}
+
+-- a rule takes operands: as many as it has arguments, each of them its argument's type or converted to it, and, with the
+-- concrete-only switch on, no argument abstract
+pub record Takes (switch : Bool) (ts : List ℕ) (r : Signature) : Type 0 where
+  pub many : length ts ≡ length (r .arguments)
+  pub reached : (k : ℕ) → k < length ts → reaches (getD ts k 0) (getD (r .arguments) k 0) ≡ true
+  pub allowed : switch ≡ true → concrete r ≡ true
+
+-- no rule of a listing takes the operands
+unfoldable pub NoRule : Bool → List Signature → List ℕ → Type 0
+NoRule switch rules ts = (i : ℕ) (r : Signature) → getElem? rules i ≡ some r → Takes switch ts r → ⊥
+
+-- the rule at this index takes the operands, and no rule before it does
+pub record Best (switch : Bool) (rules : List Signature) (ts : List ℕ) (i : ℕ) (r : Signature) : Type 0 where
+  pub there : getElem? rules i ≡ some r
+  pub taken : Takes switch ts r
+  pub earliest : (j : ℕ) → j < i → (r′ : Signature) → getElem? rules j ≡ some r′ → Takes switch ts r′ → ⊥
+
+-- every rule of a listing has as many arguments as the longest
+unfoldable pub OneLength : List Signature → Type 0
+OneLength rules = (i : ℕ) (r : Signature) → getElem? rules i ≡ some r → length (r .arguments) ≡ longest rules
+
+-- an expression's own leaves and calls, arguments before their call, and those of a worksheet
+pub data Node : Type 0 where
+  leafNode : Leaf → Node
+  callNode : ℕ → ℕ → Node
+
+unfoldable mutual
+  pub order : Tree → List Node
+  order (leaf l) = leafNode l ∷ []
+  order (call f es) = orderAll es ++ (callNode f (count es) ∷ [])
+
+  pub orderAll : Trees → List Node
+  orderAll none = []
+  orderAll (more e es) = order e ++ orderAll es
+
+unfoldable pub ownOf : List Line → List Node
+ownOf [] = []
+ownOf (leafLine l ∷ ls) = leafNode l ∷ ownOf ls
+ownOf (conversionLine d a ∷ ls) = ownOf ls
+ownOf (callLine f i n ∷ ls) = callNode f n ∷ ownOf ls
+
+module _ (listingOf : ℕ → List Signature) (switch : Bool) where
+  -- an expression gives a type and lines: a leaf its own; a call the result of the first rule that takes its operands, with the
+  -- operands' lines, their conversions where types differ, and its own line
+  mutual
+    pub data Gives : Tree → ℕ → List Line → Type 0 where
+      leafGives : {l : Leaf} → Gives (leaf l) (l .type) (leafLine l ∷ [])
+      callGives : {f i : ℕ} {es : Trees} {ts : List ℕ} {ls : List Line} {r : Signature} → GiveAll es ts ls
+          → Best switch (listingOf f) ts i r → Gives (call f es) (r .result) (ls ++ callLines f i ts r)
+
+    pub data GiveAll : Trees → List ℕ → List Line → Type 0 where
+      noneGive : GiveAll none [] []
+      moreGive : {e : Tree} {es : Trees} {t : ℕ} {ts : List ℕ} {ls ls′ : List Line} → Gives e t ls → GiveAll es ts ls′
+          → GiveAll (more e es) (t ∷ ts) (ls ++ ls′)
+
+  -- an expression is stuck: some call in it, whose arguments all give types, has no rule for their number and types
+  mutual
+    pub data Stuck : Tree → Type 0 where
+      atArgument : {f : ℕ} {es : Trees} → StuckAmong es → Stuck (call f es)
+      atCall : {f : ℕ} {es : Trees} {ts : List ℕ} {ls : List Line} → GiveAll es ts ls → NoRule switch (listingOf f) ts
+          → Stuck (call f es)
+
+    pub data StuckAmong : Trees → Type 0 where
+      firstStuck : {e : Tree} {es : Trees} → Stuck e → StuckAmong (more e es)
+      laterStuck : {e : Tree} {es : Trees} → StuckAmong es → StuckAmong (more e es)

@@ -1,0 +1,147 @@
+-- What the private functions of src/typer.rt and src/one_call.rt require and promise. Each is told of every tree whose bytes stand at the offset: its
+-- typing is what the definition of the second pass answers, with the operands on the stack and the lines on the sheet.
+use mathlib.Core.Path.{_≡_}
+use mathlib.Core.Bool.{Bool}
+use mathlib.Core.List.{List, [], _∷_, _++_}
+use Prim.Native.Nat.{ℕ, _+_, _-_, _*_, _≤_, _<_}
+use lib.Dec.{eqb}
+use lib.ListN.{length, getD, drop}
+use Rattle.domain.specs.Mask.{choose}
+use Rattle.domain.specs.Refusal.{numberOf, placeOf}
+use Rattle.domain.specs.Domain.{firstUnknown}
+use Rattle.overloads.specs.Rule.{argumentsOf}
+use Rattle.overloads.specs.Choice.{resolve}
+use Rattle.overloads.specs.Functions.{functionCount, listingOf}
+use Rattle.overloads.specs.declared.rule.Rule.{Rule}
+use Rattle.domain.specs.declared.refusal.Refusal.{Refusal}
+use Rattle.domain.specs.declared.refusal.Refusal.the-variants.{EmptySet, WrongCount, NoRuleLeft, NoRoom}
+use Rattle.worksheet.specs.declared.sheet.Sheet.{Sheet}
+use Rattle.worksheet.specs.declared.sheet.Room.{Room}
+use Rattle.worksheet.specs.declared.sheet.Room.the-variants.{Fits, Short}
+use Rattle.worksheet.specs.declared.stack.Stack.{Stack}
+use Rattle.worksheet.specs.declared.progress.Progress.{Progress}
+use Rattle.worksheet.specs.declared.progress.Verdict.{Verdict}
+use Rattle.worksheet.specs.declared.progress.Verdict.the-variants.{Clean, Wrong}
+use Rattle.worksheet.specs.declared.typer.TypeAnswer.{TypeAnswer}
+use Rattle.worksheet.specs.declared.typer.TypeAnswer.the-variants as answer
+use Rattle.worksheet.specs.Tree.{Tree, Trees, count, bytesOf, bytesOfAll, nodes, nodesAll, Known, KnownAll}
+use Rattle.worksheet.specs.Line.{Line, encode}
+use Rattle.worksheet.specs.Machine.{mostOperands}
+use Rattle.worksheet.specs.Answer.{enoughBytes}
+use Rattle.worksheet.specs.Places.{behind, starts}
+use Rattle.worksheet.specs.Typer.{Typed, typed, refused, Operands, operands, refusedAmong, conclude, typeOf, typeAll}
+use Rattle.worksheet.specs.Sheet.{Wrote, written, roomFor, placed}
+use Rattle.worksheet.specs.Stack.{typesOn, startsOn, Full, Pushed}
+
+-- the four fields of a rule for its arguments
+abbrev pub fieldsOf : Rule → List ℕ
+fieldsOf r = r .a0 ∷ r .a1 ∷ r .a2 ∷ r .a3 ∷ []
+
+-- a wrong count (5) stands at the call's tag, an operand that no rule takes (6) at its first byte, and an empty set (1) at the
+-- call's tag again; the first operand's offset is at the index `from`
+abbrev pub placedAt : ℕ → ℕ → List ℕ → Refusal → Refusal
+placedAt at from offsets why =
+    choose (eqb (numberOf why) 5) (WrongCount at)
+    (choose (eqb (numberOf why) 6) (NoRuleLeft (getD offsets (from + placeOf why - 1) 0)) (EmptySet at))
+
+-- the operand that no rule takes is on the stack
+abbrev pub Within : Refusal → ℕ → Type 0
+Within why from = numberOf why ≡ 6 → (0 < placeOf why) × (from + placeOf why ≤ mostOperands)
+
+-- a rule with an argument for each operand, and room for a line for each
+pub record ConversionRoom (ts : List ℕ) (rule : Rule) (h : Sheet) : Type 0 where
+  pub taken : length ts ≤ length (argumentsOf rule)
+  pub room : h .len + 4 * length ts ≤ enoughBytes
+
+-- operands of these types and starts, and these lines, behind those that were there
+pub record Went (at : ℕ) (ts ps : List ℕ) (ls : List Line) (s : Stack) (h : Sheet) (r : Progress) : Type 0 where
+  pub verdict-is : r .verdict ≡ Clean
+  pub at-is : r .at ≡ at
+  pub pushed : Pushed s ts ps (r .stack)
+  pub wrote : Wrote h (encode ls) (r .sheet)
+
+-- a call's operands are on the stack, and there is room for its lines
+pub record CallThere (n : ℕ) (s : Stack) (h : Sheet) : Type 0 where
+  pub enough : n ≤ s .top
+  pub bounded : s .top < mostOperands
+  pub room : h .len + 4 * n + 4 ≤ enoughBytes
+
+-- the result takes the place of the operands, which stood on ts
+pub record Called (at past t : ℕ) (ts ps : List ℕ) (ls : List Line) (h : Sheet) (r : Progress) : Type 0 where
+  pub verdict-is : r .verdict ≡ Clean
+  pub at-is : r .at ≡ past
+  pub types-are : typesOn (r .stack) ≡ ts ++ (t ∷ [])
+  pub starts-are : startsOn (r .stack) ≡ ps ++ (at ∷ [])
+  pub top-is : r .stack .top ≡ length ts + 1
+  pub wrote : Wrote h (encode ls) (r .sheet)
+
+abbrev pub CallClaim : ℕ → ℕ → List ℕ → List ℕ → Sheet → Progress → Typed → Type 0
+CallClaim at past ts ps h r (typed t ls) = Called at past t ts ps ls h r
+CallClaim at past ts ps h r (refused why) = r .verdict ≡ Wrong why
+
+unfoldable pub CallTyped : ℕ → ℕ → ℕ → ℕ → Bool → Stack → Sheet → Progress → Type 0
+CallTyped f n at past switch s h r =
+    (ts us ps qs : List ℕ) → typesOn s ≡ ts ++ us → startsOn s ≡ ps ++ qs → length us ≡ n → length qs ≡ n
+    → length ts + n ≡ s .top → length ps + n ≡ s .top → f < functionCount → length us ≤ firstUnknown us
+    → CallClaim at past ts ps h r (conclude f at qs us [] (resolve switch (listingOf f) us))
+
+-- a tree's bytes stand at the offset, and there is room for its operands and lines: fewer than twice as many lines as nodes
+pub record NodeThere (b : List ℕ) (at : ℕ) (s : Stack) (h : Sheet) : Type 0 where
+  pub tree : Tree
+  pub tail : List ℕ
+  pub text : drop at b ≡ bytesOf tree ++ tail
+  pub known : Known functionCount tree
+  pub full : Full s
+  pub stack-room : s .top + nodes tree ≤ mostOperands
+  pub sheet-room : h .len + 8 * nodes tree ≤ enoughBytes + 4
+
+abbrev pub NodeClaim : Tree → ℕ → Stack → Sheet → Progress → Typed → Type 0
+NodeClaim e at s h r (typed t ls) = Went (behind e at) (t ∷ []) (at ∷ []) ls s h r
+NodeClaim e at s h r (refused why) = r .verdict ≡ Wrong why
+
+unfoldable pub NodeTyped : List ℕ → ℕ → Bool → Stack → Sheet → Progress → Type 0
+NodeTyped b at switch s h r =
+    (e : Tree) (tail : List ℕ) → drop at b ≡ bytesOf e ++ tail → Known functionCount e
+    → NodeClaim e at s h r (typeOf listingOf switch e at)
+
+-- so many trees' bytes stand there, and there is room besides for the line of their call
+pub record ArgsThere (b : List ℕ) (at left : ℕ) (s : Stack) (h : Sheet) : Type 0 where
+  pub trees : Trees
+  pub tail : List ℕ
+  pub many : count trees ≡ left
+  pub text : drop at b ≡ bytesOfAll trees ++ tail
+  pub known : KnownAll functionCount trees
+  pub full : Full s
+  pub stack-room : s .top + nodesAll trees < mostOperands
+  pub sheet-room : h .len + 8 * nodesAll trees + 4 ≤ enoughBytes
+
+abbrev pub ArgsClaim : Trees → ℕ → Stack → Sheet → Progress → Operands → Type 0
+ArgsClaim es at s h r (operands ts ls) = Went (at + length (bytesOfAll es)) ts (starts es at) ls s h r
+ArgsClaim es at s h r (refusedAmong why) = r .verdict ≡ Wrong why
+
+unfoldable pub ArgsTyped : List ℕ → ℕ → ℕ → Bool → Stack → Sheet → Progress → Type 0
+ArgsTyped b at left switch s h r =
+    (es : Trees) (tail : List ℕ) → count es ≡ left → drop at b ≡ bytesOfAll es ++ tail → KnownAll functionCount es
+    → ArgsClaim es at s h r (typeAll listingOf switch es at)
+
+-- the answer that the root's progress makes, and the buffer then
+abbrev pub SheetFits : Progress → Type 0
+SheetFits r = r .verdict ≡ Clean → r .sheet .len ≤ enoughBytes
+
+abbrev pub roomAnswer : ℕ → Room → TypeAnswer
+roomAnswer t Fits = answer.Typed t
+roomAnswer t (Short needed) = answer.Refused (NoRoom needed)
+
+abbrev pub verdictAnswer : ℕ → ℕ → ℕ → Verdict → TypeAnswer
+verdictAnswer t needed have Clean = roomAnswer t (roomFor needed have)
+verdictAnswer t needed have (Wrong why) = answer.Refused why
+
+abbrev pub verdictBuffer : List ℕ → List ℕ → Verdict → List ℕ
+verdictBuffer bs buffer Clean = placed bs buffer
+verdictBuffer bs buffer (Wrong why) = buffer
+
+abbrev pub rootAnswer : Progress → ℕ → TypeAnswer
+rootAnswer r have = verdictAnswer (getD (r .stack .types) 0 0) (r .sheet .len) have (r .verdict)
+
+abbrev pub rootBuffer : Progress → List ℕ → List ℕ
+rootBuffer r buffer = verdictBuffer (written (r .sheet)) buffer (r .verdict)

@@ -1,0 +1,38 @@
+-- 'The strict machine' with the stack's top last, as an array holds it: the same steps, counted from the end.
+use mathlib.Core.List.{List, [], _∷_, _++_, reverse}
+use mathlib.Core.Option.{Option, none, some}
+use Prim.Native.Nat.{ℕ, suc, _-_}
+use lib.Dec.{leb, ltb, eqb}
+use lib.ListN.{length, getD, set, take, drop, getElem?}
+use Rattle.domain.specs.Mask.{both}
+use Rattle.overloads.specs.Signature.{Signature}
+use Rattle.worksheet.specs.Tree.{lastLeaf}
+use Rattle.worksheet.specs.Line.{leafLine, conversionLine, callLine, onlyIf}
+use Rattle.worksheet.specs.Machine.{Outcome, ended, stopped, mostOperands, convertible, same, Stepper, runBytesBy}
+
+abbrev pub pushLast : ℕ → List ℕ → Option (List ℕ)
+pushLast t s = onlyIf (ltb (length s) mostOperands) (some (s ++ (t ∷ [])))
+
+unfoldable pub convertLast : ℕ → ℕ → List ℕ → Option (List ℕ)
+convertLast d a s =
+    onlyIf (both (ltb d (length s)) (convertible (getD s (length s - suc d) 0) a)) (some (set s (length s - suc d) a))
+
+unfoldable pub applyLast : ℕ → List ℕ → Option Signature → Option (List ℕ)
+applyLast n s none = none
+applyLast n s (some r) =
+    onlyIf (eqb (length (r .arguments)) n)
+    (onlyIf (both (leb n (length s)) (same (drop (length s - n) s) (r .arguments))) (pushLast (r .result) (take (length s - n) s)))
+
+module _ (listingOf : ℕ → List Signature) where
+  abbrev pub stepLast : Stepper
+  stepLast (leafLine l) s = onlyIf (leb (l .type) lastLeaf) (pushLast (l .type) s)
+  stepLast (conversionLine d a) s = convertLast d a s
+  stepLast (callLine f i n) s = applyLast n s (getElem? (listingOf f) i)
+
+  abbrev pub runBytesLast : List ℕ → Outcome
+  runBytesLast bs = runBytesBy stepLast bs 0 []
+
+-- an outcome with its stack turned over
+abbrev pub turned : Outcome → Outcome
+turned (ended s) = ended (reverse s)
+turned (stopped n) = stopped n

@@ -1,0 +1,84 @@
+-- 'Expressions': trees, their prefix bytes and their limits, apart from any way of reading them.
+use Prim.Native.Nat.{ℕ, zero, suc, _+_, _≤_, _<_, max}
+use mathlib.Core.List.{List, [], _∷_, _++_}
+
+-- a leaf names the type of an operand
+pub record Leaf : Type 0 where
+  pub type : ℕ
+
+mutual
+  pub data Tree : Type 0 where
+    leaf : Leaf → Tree
+    call : ℕ → Trees → Tree
+
+  pub data Trees : Type 0 where
+    none : Trees
+    more : Tree → Trees → Trees
+
+-- at most 64 nodes; the root has depth 1, the deepest 16; a leaf's type is 0 to 156
+abbrev pub mostNodes : ℕ
+mostNodes = 64
+
+abbrev pub deepest : ℕ
+deepest = 16
+
+abbrev pub lastLeaf : ℕ
+lastLeaf = 156
+
+unfoldable pub count : Trees → ℕ
+count none = 0
+count (more e es) = suc (count es)
+
+-- prefix bytes. Leaf: 0, type code. Call: 1, function, number of arguments, then the arguments
+abbrev pub leafTag : Leaf → ℕ
+leafTag l = 0
+
+abbrev pub callTag : ℕ
+callTag = 1
+
+unfoldable mutual
+  unfolding count
+
+  pub bytesOf : Tree → List ℕ
+  bytesOf (leaf l) = leafTag l ∷ l .type ∷ []
+  bytesOf (call f es) = callTag ∷ f ∷ count es ∷ bytesOfAll es
+
+  pub bytesOfAll : Trees → List ℕ
+  bytesOfAll none = []
+  bytesOfAll (more e es) = bytesOf e ++ bytesOfAll es
+
+-- how many nodes
+unfoldable mutual
+  pub nodes : Tree → ℕ
+  nodes (leaf l) = 1
+  nodes (call f es) = 1 + nodesAll es
+
+  pub nodesAll : Trees → ℕ
+  nodesAll none = 0
+  nodesAll (more e es) = nodes e + nodesAll es
+
+-- how many levels
+unfoldable mutual
+  pub levels : Tree → ℕ
+  levels (leaf l) = 1
+  levels (call f es) = 1 + levelsAll es
+
+  pub levelsAll : Trees → ℕ
+  levelsAll none = 0
+  levelsAll (more e es) = max (levels e) (levelsAll es)
+
+-- every type code and function is known, with so many functions; any number of arguments is
+unfoldable mutual
+  pub Known : ℕ → Tree → Type 0
+  Known functions (leaf l) = l .type ≤ lastLeaf
+  Known functions (call f es) = (f < functions) × KnownAll functions es
+
+  pub KnownAll : ℕ → Trees → Type 0
+  KnownAll functions none = Unit
+  KnownAll functions (more e es) = Known functions e × KnownAll functions es
+
+-- the expressions within the limits
+pub record WellFormed (functions : ℕ) (e : Tree) : Type 0 where
+  pub known : Known functions e
+  pub few : nodes e ≤ mostNodes
+  pub low : levels e ≤ deepest

@@ -1,0 +1,123 @@
+// One call in the second pass, once its operands are typed: its rule by the crate `overloads`, the conversions that the rule asks for,
+// the call's own line, and the result in place of the operands; or the refusal, with its place in the expression.
+
+ghost use mathlib.Core.Path.{_≡_};
+ghost use lib.ListN.{getD};
+ghost use Rattle.overloads.specs.Rule.{argumentsOf};
+ghost use Rattle.worksheet.specs.Line.{encode, conversions};
+ghost use Rattle.worksheet.specs.Sheet.{Wrote};
+ghost use Rattle.worksheet.specs.SecondPass.{fieldsOf, Within, placedAt, ConversionRoom, CallThere, CallTyped};
+use crate::expression::CALL;
+use crate::expression::MOST_NODES;
+use crate::progress::Progress;
+use crate::progress::Verdict;
+use crate::sheet::Sheet;
+use crate::stack::Stack;
+use domain::Refusal;
+use overloads::CallAnswer;
+use overloads::Rule;
+use overloads::call_of;
+
+// The mark of a conversion's line; a leaf's and a call's are their tags.
+const CONVERSION: u8 = 2;
+
+// The numbers of the two refusals of a single call that say something of its operands.
+const WRONG_COUNT: u8 = 5;
+
+const NO_RULE_LEFT: u8 = 6;
+
+// Types the call at `at`, whose operands are the last `count` on the stack, and whose last byte stands before `past`.
+pub fn type_call(
+    function: u8,
+    count: u8,
+    at: usize,
+    past: usize,
+    switch: bool,
+    stack: Stack,
+    sheet: Sheet,
+) -> Progress
+    requires { ⌜ CallThere count stack sheet ⌝ }
+    ensures { λ r. ⌜ CallTyped function count at past switch stack sheet r ⌝ }
+{
+    let n = count as usize;
+    let top = stack.top;
+    let from = top - n;
+    let types = stack.types;
+    let starts = stack.starts;
+    let operands = &types[from..top];
+    let answer = call_of(function, operands, switch);
+    match answer {
+        CallAnswer::Refused(why) => Progress {
+            verdict: Verdict::Wrong(place(why, at, from, starts)),
+            at: past,
+            stack,
+            sheet,
+        },
+        CallAnswer::Rule(chosen) => {
+            let rule = chosen.rule;
+            let converted = convert(operands, rule, sheet);
+            let lined = converted.line(CALL, function, chosen.index, count);
+            let pushed = stack.cut(n).push(rule.result, at);
+            Progress {
+                verdict: Verdict::Clean,
+                at: past,
+                stack: pushed,
+                sheet: lined,
+            }
+        }
+    }
+}
+
+// The refusal of a single call, with its place in the expression: the call's tag is at `at`, and its operands' offsets stand in
+// `starts` from the index `from` on. Besides 5 and 6 a call of a known function with known operands is refused only by 1.
+fn place(why: Refusal, at: usize, from: usize, starts: [usize; MOST_NODES]) -> Refusal
+    requires { ⌜ Within why from ⌝ }
+    ensures { λ r. ⌜ r ≡ placedAt at from starts why ⌝ }
+{
+    let number = why.number();
+    if number == WRONG_COUNT {
+        return Refusal::WrongCount(at);
+    }
+    if number == NO_RULE_LEFT {
+        let operand = from + why.place() - 1;
+        return Refusal::NoRuleLeft(starts[operand]);
+    }
+    Refusal::EmptySet(at)
+}
+
+// Writes the conversions of a call's operands to the rule's arguments, by ascending argument, only where types differ.
+fn convert(operands: &[u8], rule: Rule, sheet: Sheet) -> Sheet
+    requires { ⌜ ConversionRoom (now operands) rule sheet ⌝ }
+    ensures { λ r. ⌜ Wrote sheet (encode (conversions (now (operands .entry)) (argumentsOf rule))) r ⌝ }
+{
+    let mut lines = sheet;
+    let mut i: usize = 0;
+    while i < operands.len() {
+        let depth = operands.len() - 1 - i;
+        let wanted = argument(rule, i);
+        if operands[i] != wanted {
+            lines = lines.line(CONVERSION, depth as u8, wanted, 0);
+        }
+        i += 1;
+    }
+    lines
+}
+
+// The type of a rule's argument, from 0 to 3; 0 past these.
+fn argument(rule: Rule, i: usize) -> u8
+    ensures { λ r. ⌜ r ≡ getD (fieldsOf rule) i 0 ⌝ }
+{
+    if i == 0 {
+        return rule.a0;
+    }
+    if i == 1 {
+        return rule.a1;
+    }
+    if i == 2 {
+        return rule.a2;
+    }
+    if i == 3 {
+        return rule.a3;
+    }
+    0
+}

@@ -1,0 +1,75 @@
+// A bounded run of bytes that is written front to back, and its one way into lent memory.
+//
+// A worksheet is written here first and copied out once, when its whole length is known to fit: so a refusal leaves the lent
+// buffer as it was. Bytes are put one at a time, and four of them make a line.
+
+ghost use mathlib.Core.Path.{_≡_};
+ghost use mathlib.Core.List.{[], _∷_};
+ghost use Prim.Native.Nat.{_+_, _≤_, _<_};
+ghost use lib.ListN.{length, take};
+ghost use Rattle.worksheet.specs.Answer.{enoughBytes};
+ghost use Rattle.worksheet.specs.Sheet.{Wrote, roomFor, placed};
+
+// So many bytes hold the worksheet of any expression within the limits: fewer than two lines for each of 64 nodes.
+const ENOUGH_BYTES: usize = 508;
+
+// The bytes written so far are the first `len`.
+pub struct Sheet {
+    pub bytes: [u8; ENOUGH_BYTES],
+    pub len: usize,
+}
+
+impl Sheet {
+    // With nothing written.
+    pub fn new() -> Self
+        ensures { λ r. ⌜ r .len ≡ 0 ⌝ }
+    {
+        Self {
+            bytes: [0u8; ENOUGH_BYTES],
+            len: 0,
+        }
+    }
+
+    // One byte more.
+    pub fn put(mut self, byte: u8) -> Self
+        requires { ⌜ self .len < enoughBytes ⌝ }
+        ensures { λ r. ⌜ Wrote self (byte ∷ []) r ⌝ }
+    {
+        let at = self.len;
+        self.bytes[at] = byte;
+        self.len = at + 1;
+        self
+    }
+
+    // Four bytes more.
+    pub fn line(self, a: u8, b: u8, c: u8, d: u8) -> Self
+        requires { ⌜ self .len + 4 ≤ enoughBytes ⌝ }
+        ensures { λ r. ⌜ Wrote self (a ∷ b ∷ c ∷ d ∷ []) r ⌝ }
+    {
+        self.put(a).put(b).put(c).put(d)
+    }
+}
+
+// Whether a run of bytes fits a lent buffer.
+pub enum Room {
+    Fits,
+    // It does not, and needs so many bytes.
+    Short(usize),
+}
+
+// Puts the first `len` bytes in front of the lent buffer, if they fit; otherwise the buffer keeps its contents.
+pub fn copy_out(bytes: [u8; ENOUGH_BYTES], len: usize, out: &mut [u8]) -> Room
+    requires { ⌜ len ≤ enoughBytes ⌝ }
+    ensures answer { λ r. ⌜ r ≡ roomFor len (length (now (out .entry))) ⌝ }
+    ensures buffer { λ _. ⌜ now (out .exit) ≡ placed (take len bytes) (now (out .entry)) ⌝ }
+{
+    if out.len() < len {
+        return Room::Short(len);
+    }
+    let mut i: usize = 0;
+    while i < len {
+        out[i] = bytes[i];
+        i += 1;
+    }
+    Room::Fits
+}

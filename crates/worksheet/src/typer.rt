@@ -1,0 +1,135 @@
+// The second pass over an expression, and the whole answer: the type of the expression and its worksheet, or the first refusal.
+//
+// Arguments are typed before their call, from left to right, so `type_node` and `type_arguments` call each other, as the two
+// readings of the first pass do. They run over bytes that the first pass accepted, which is why the stack of operands and the
+// sheet of lines have room enough. The stack and the sheet go in by value and come back, and only a finished sheet is copied into
+// the lent buffer.
+
+ghost use mathlib.Core.Path.{_≡_};
+ghost use lib.ListN.{length};
+ghost use Rattle.worksheet.specs.Answer.{bufferAfter};
+ghost use Rattle.worksheet.specs.SecondPass.{NodeThere, NodeTyped, ArgsThere, ArgsTyped, SheetFits, rootAnswer, rootBuffer};
+ghost use Rattle.worksheet.specs.Typing.{typing, answerOf};
+use crate::expression::LEAF;
+use crate::expression::Read;
+use crate::expression::read_expression;
+use crate::one_call::type_call;
+use crate::progress::Progress;
+use crate::progress::Verdict;
+use crate::sheet::Room;
+use crate::sheet::Sheet;
+use crate::sheet::copy_out;
+use crate::stack::Stack;
+use domain::Refusal;
+
+// The answer to an expression.
+pub enum TypeAnswer {
+    // Accepted: its type. The worksheet stands in front of the lent buffer.
+    Typed(u8),
+    // The first fault. The lent buffer is as it was.
+    Refused(Refusal),
+}
+
+// Types an expression and writes its worksheet into the lent buffer. First the faults of the first pass, then those of the second,
+// and the room last.
+pub fn type_expression(bytes: &[u8], switch: bool, out: &mut [u8]) -> TypeAnswer
+    ensures answer { λ r. ⌜ r ≡ answerOf (typing switch (now (bytes .entry)) (now (out .entry))) ⌝ }
+    ensures buffer { λ _. ⌜ now (out .exit) ≡ bufferAfter (typing switch (now (bytes .entry)) (now (out .entry))) (now (out .entry)) ⌝ }
+{
+    let read = read_expression(bytes);
+    if let Read::Refused(why) = read {
+        return TypeAnswer::Refused(why);
+    }
+    let stack = Stack::new();
+    let sheet = Sheet::new();
+    let root = type_node(bytes, 0, switch, stack, sheet);
+    answer(root, out)
+}
+
+// The answer that the root's typing makes, with the worksheet copied out where it is clean and fits.
+fn answer(root: Progress, out: &mut [u8]) -> TypeAnswer
+    requires { ⌜ SheetFits root ⌝ }
+    ensures answer { λ r. ⌜ r ≡ rootAnswer root (length (now (out .entry))) ⌝ }
+    ensures buffer { λ _. ⌜ now (out .exit) ≡ rootBuffer root (now (out .entry)) ⌝ }
+{
+    let verdict = root.verdict;
+    match verdict {
+        Verdict::Wrong(why) => TypeAnswer::Refused(why),
+        Verdict::Clean => {
+            let operands = root.stack;
+            let result = operands.types[0];
+            let lines = root.sheet;
+            let written = lines.bytes;
+            let len = lines.len;
+            let room = copy_out(written, len, out);
+            match room {
+                Room::Short(needed) => TypeAnswer::Refused(Refusal::NoRoom(needed)),
+                Room::Fits => TypeAnswer::Typed(result),
+            }
+        }
+    }
+}
+
+// Types the node at `at`, which the first pass has found there.
+fn type_node(bytes: &[u8], at: usize, switch: bool, stack: Stack, sheet: Sheet) -> Progress
+    requires { ⌜ NodeThere (now bytes) at stack sheet ⌝ }
+    ensures { λ r. ⌜ NodeTyped (now (bytes .entry)) at switch stack sheet r ⌝ }
+{
+    let tag = bytes[at];
+    let code = bytes[at + 1];
+    if tag == LEAF {
+        let pushed = stack.push(code, at);
+        let lined = sheet.line(LEAF, code, 0, 0);
+        return Progress {
+            verdict: Verdict::Clean,
+            at: at + 2,
+            stack: pushed,
+            sheet: lined,
+        };
+    }
+    let count = bytes[at + 2];
+    let inner = type_arguments(bytes, at + 3, count as usize, switch, stack, sheet);
+    let verdict = inner.verdict;
+    match verdict {
+        Verdict::Wrong(_) => inner,
+        Verdict::Clean => {
+            let past = inner.at;
+            let operands = inner.stack;
+            let lines = inner.sheet;
+            type_call(code, count, at, past, switch, operands, lines)
+        }
+    }
+}
+
+// Types `left` nodes one after the other.
+fn type_arguments(
+    bytes: &[u8],
+    at: usize,
+    left: usize,
+    switch: bool,
+    stack: Stack,
+    sheet: Sheet,
+) -> Progress
+    requires { ⌜ ArgsThere (now bytes) at left stack sheet ⌝ }
+    ensures { λ r. ⌜ ArgsTyped (now (bytes .entry)) at left switch stack sheet r ⌝ }
+{
+    if left == 0 {
+        return Progress {
+            verdict: Verdict::Clean,
+            at,
+            stack,
+            sheet,
+        };
+    }
+    let one = type_node(bytes, at, switch, stack, sheet);
+    let verdict = one.verdict;
+    match verdict {
+        Verdict::Wrong(_) => one,
+        Verdict::Clean => {
+            let next = one.at;
+            let operands = one.stack;
+            let lines = one.sheet;
+            type_arguments(bytes, next, left - 1, switch, operands, lines)
+        }
+    }
+}
