@@ -39,3 +39,5 @@ pub mod Matching
 pub mod LinesDone
 pub mod RuleRecords
 pub mod Outcomes
+pub mod Readings
+pub mod OurFunctions

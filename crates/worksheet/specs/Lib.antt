@@ -15,3 +15,4 @@ pub mod Typing
 pub mod SecondPass
 pub mod Run
 pub mod MachineStack
+pub mod Readings

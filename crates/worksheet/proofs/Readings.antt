@@ -1,0 +1,23 @@
+-- 'Readings at the bench': document 01's marked readings hold, one table by one statement. Assumes nothing.
+use mathlib.Core.Path.{_≡_, refl}
+use Rattle.domain.specs.Mask.{bits}
+use Rattle.domain.specs.Domain.{converts, isAbstract, firstUnknown}
+use Rattle.domain.specs.Conversion.{combination, agree, consensusWith, consensusWithout}
+use Rattle.domain.specs.TypeCode.{predeclaredCode}
+use Rattle.overloads.specs.Signature.{reaches}
+use Rattle.overloads.specs.Choice.{narrow, resolve}
+use Rattle.overloads.specs.Rule.{ruleOf}
+use Rattle.overloads.specs.Regular.{codesOf, concludedOf, regularRules}
+use Rattle.overloads.specs.Sequences.{floatScalars, concreteFloatScalars, concreteIntScalars, vectorSizes, vector, matrix, scalarOrVecn}
+use Rattle.overloads.specs.Functions.{functionSets, functionSetOf, listedRules, listingOf}
+use Rattle.overloads.specs.Call.{callOf, survivorsOf, survivorsOfCall}
+use Rattle.worksheet.specs.Reading.{argsAt, leafAt, callAt, taggedAt, nodeAt, expressionOf}
+use Rattle.worksheet.specs.Line.{encode}
+use Rattle.worksheet.specs.Typer.{typeOf, typeAll}
+use Rattle.worksheet.specs.Answer.{answer}
+use Rattle.worksheet.specs.Typing.{typingOf}
+use Rattle.worksheet.specs.Readings.{asked, paper}
+
+pub readings : asked ≡ paper
+unfolding asked paper bits converts isAbstract firstUnknown combination agree consensusWith consensusWithout predeclaredCode reaches narrow resolve ruleOf codesOf concludedOf regularRules floatScalars concreteFloatScalars concreteIntScalars vectorSizes vector matrix scalarOrVecn functionSets functionSetOf listedRules listingOf callOf survivorsOf survivorsOfCall argsAt leafAt callAt taggedAt nodeAt expressionOf typeOf typeAll encode answer typingOf
+readings = refl
