@@ -79,22 +79,62 @@ def preferred(words):
     return [PANICS[words[0]]] if words[0] in PANICS else [0] + rule(words[0])
 
 
-def allowed(words):
+def types(words):
     return [4] if words == ["panic"] else [0] + [int(w) for w in words]
 
 
 def handsets(words):
     fields = [field.split() for field in " ".join(words).split("|")]
-    made, ops, count, listing, counts, chosen, *types = fields
-    assert len(types) == 5
+    made, ops, count, listing, counts, chosen, *at_each = fields
+    assert len(at_each) == 5
     refused = count == ["13"] and listing == ["-"]
     assert refused or len(rules(listing)) == 6 * int(count[0])
     answers = [
         [13] if refused else [0] + rules(listing),
         [1] if counts == ["panic"] else [0] + [int(w) for w in counts],
         preferred(chosen),
-    ] + [allowed(words) for words in types]
+    ] + [types(words) for words in at_each]
     return [byte for content in [hand_made(made), steps(ops)] + answers for byte in part(content)]
+
+
+def calls(words):
+    arrow = words.index("->")
+    function, concrete, *operands = map(int, words[:arrow])
+    survivors, index, result = words[arrow + 1:]
+    mask = sum(1 << int(k) for k in survivors.split(","))
+    return [function, concrete] + list(mask.to_bytes(8, "little")) + [int(index), int(result)] + operands
+
+
+def refused(words):
+    function, *operands, arrow, argument = words
+    return [int(function), int(argument)] + [int(w) for w in operands]
+
+
+def allowed(words):
+    function, index, *answer = words
+    if answer != ["panic"]:
+        count, arrow, *answer = answer
+        assert int(count) == len(answer)
+    return [int(function), int(index)] + types(answer)
+
+
+def expression(content, concrete, size, answer, sheet):
+    number, place, code = answer
+    return [concrete] + word(size) + [number] + word(place) + [code] + part(content) + sheet
+
+
+def hexed(text):
+    return list(bytes.fromhex("" if text == "-" else text))
+
+
+def worksheets(words):
+    content, concrete, arrow, *answer, sheet = words
+    return expression(hexed(content), int(concrete), 508, map(int, answer), hexed(sheet))
+
+
+def room(words):
+    content, concrete, size, arrow, *answer, sheet = words
+    return expression(hexed(content), int(concrete), int(size), map(int, answer), hexed(sheet))
 
 
 # Document 01's limits of a List, not the crate's: the number of the answer, and the rules.
@@ -125,7 +165,68 @@ def boundary(number, texts):
     return [number] + rules(texts)
 
 
-LISTS = [combine, convertible, named_sets, consensus, handsets]
+# Document 01's limits of an expression, not the crate's: the expression, the buffer's size, number, place and type, and the worksheet.
+ABS, CLAMP, INSERT_BITS = 0, 4, 78
+I32, U32, F32 = 2, 5, 8
+
+
+def leaf(t):
+    return [0, t]
+
+
+def call(function, *arguments):
+    return [1, function, len(arguments)] + sum(arguments, [])
+
+
+def abs_of(n):
+    """F32 under n calls of Abs, with its worksheet."""
+    return [1, ABS, 1] * n + leaf(F32), [0, F32, 0, 0] + [1, ABS, 8, 1] * n
+
+
+def clamps(n):
+    """F32 under n calls of Clamp, as flat as may be, with its worksheet. It has 1 + 3 x n nodes."""
+    if n == 0:
+        return leaf(F32), [0, F32, 0, 0]
+    inner = [clamps((n - 1 + k) // 3) for k in range(3)]
+    return call(CLAMP, *[one for one, _ in inner]), sum([sheet for _, sheet in inner], []) + [1, CLAMP, 8, 3]
+
+
+NODES_64, NODES_64_SHEET = clamps(21)
+NODES_65 = call(ABS, NODES_64)
+DEPTH_16, DEPTH_16_SHEET = abs_of(15)
+DEPTH_17, _ = abs_of(16)
+BITS = call(INSERT_BITS, leaf(I32), leaf(I32), leaf(U32), leaf(U32))
+BITS_SHEET = [0, I32, 0, 0] * 2 + [0, U32, 0, 0] * 2 + [1, INSERT_BITS, 0, 4]
+SAMPLE = call(CLAMP, leaf(0), leaf(U32), leaf(0))
+SAMPLE_SHEET = [0, 0, 0, 0, 0, 5, 0, 0, 0, 0, 0, 0, 2, 2, 5, 0, 2, 0, 5, 0, 1, 4, 5, 3]
+LIMITS = [
+    ([], 508, (8, 0, 255), []),
+    (leaf(156), 508, (0, 0, 156), [0, 156, 0, 0]),
+    (leaf(157), 508, (7, 1, 255), []),
+    (BITS, 508, (0, 0, I32), BITS_SHEET),
+    (call(78), 508, (5, 0, 255), []),
+    (call(79), 508, (7, 1, 255), []),
+    (NODES_64, 508, (0, 0, F32), NODES_64_SHEET),
+    (NODES_65, 508, (9, len(NODES_65) - 2, 255), []),
+    (call(ABS, *[leaf(F32)] * 63), 508, (5, 0, 255), []),
+    (call(ABS, *[leaf(F32)] * 64), 508, (9, 129, 255), []),
+    (DEPTH_16, 508, (0, 0, F32), DEPTH_16_SHEET),
+    (DEPTH_17, 508, (9, 48, 255), []),
+    (leaf(156), 4, (0, 0, 156), [0, 156, 0, 0]),
+    (leaf(156), 3, (10, 4, 255), []),
+    (SAMPLE, 24, (0, 0, U32), SAMPLE_SHEET),
+    (SAMPLE, 23, (10, 24, 255), []),
+    (NODES_64, 256, (0, 0, F32), NODES_64_SHEET),
+    (NODES_64, 255, (10, 256, 255), []),
+    (NODES_64, 0, (10, 256, 255), []),
+]
+
+
+def limit(content, size, answer, sheet):
+    return expression(content, 0, size, answer, sheet)
+
+
+LISTS = [combine, convertible, named_sets, consensus, handsets, calls, refused, allowed, worksheets, room]
 
 
 def store(path, records):
@@ -140,6 +241,7 @@ def main(answers, data):
         lines = (answers / (name + ".txt")).read_text().splitlines()
         store(data / name, [make(line.split()) for line in lines])
     store(data / "boundary", [boundary(*line) for line in BOUNDARY])
+    store(data / "limits", [limit(*line) for line in LIMITS])
 
 
 main(pathlib.Path(sys.argv[1]), pathlib.Path(sys.argv[2]))

@@ -1,21 +1,26 @@
-// Asks the overload library every question whose answer by the crate is stored, and counts the answers that differ.
+// Asks the libraries every question whose answer by the crate is stored, and counts the answers that differ.
 //
-// Each list of answers is a file of data/ and a file of src/ under the same name, which holds one function, `agrees`: whether our
-// answer to a record's question is the stored one. `lists` names them all; `boundary` alone holds document 01's answers in place of
-// the crate's. docs/STORED.md says what the records hold.
+// Each list of answers is a file of data/ and a file of src/ under the same name, which holds one public function, `agrees`: whether our
+// answer to a record's question is the stored one. The lists of expressions, `worksheets`, `room` and `limits`, share `expressions`.
+// `lists` names them all; `boundary` and `limits` hold document 01's answers in place of the crate's. docs/STORED.md says what the
+// records hold.
 
 mod agreement;
+mod allowed;
 mod answers;
 mod boundary;
+mod calls;
 mod combine;
 mod consensus;
 mod convertible;
+mod expressions;
 mod hand_made;
 mod handsets;
 mod lists;
 mod named_sets;
 mod parts;
 mod records;
+mod refused;
 mod rules;
 mod set_answers;
 mod steps;
@@ -32,4 +37,10 @@ fn main() {
     replay(List::Consensus, b"consensus");
     replay(List::HandSets, b"handsets");
     replay(List::Boundary, b"boundary");
+    replay(List::Calls, b"calls");
+    replay(List::Refused, b"refused");
+    replay(List::Allowed, b"allowed");
+    replay(List::Expressions, b"worksheets");
+    replay(List::Expressions, b"room");
+    replay(List::Expressions, b"limits");
 }

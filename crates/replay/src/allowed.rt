@@ -1,0 +1,26 @@
+// The types that an argument of a function may have. A record is the function, the argument's index, and the stored answer.
+
+use crate::records::wide;
+use crate::set_answers::allowed_agrees;
+use overloads::AnyOverloadSet;
+use overloads::FunctionSet;
+use overloads::function_set;
+use overloads::list_of;
+
+// Whether the types that the function's full set allows there are the stored ones.
+pub fn agrees(record: &[u8]) -> bool {
+    if record.len() < 2 {
+        return false;
+    }
+    let i = wide(record[1]);
+    let stored = &record[2..];
+    match function_set(record[0]) {
+        FunctionSet::Unknown => false,
+        FunctionSet::Regular(set) => allowed_agrees(AnyOverloadSet::from_regular(set), i, stored),
+        FunctionSet::List(listed) => allowed_agrees(
+            AnyOverloadSet::from_list(list_of(listed)),
+            i,
+            stored,
+        ),
+    }
+}
