@@ -1,0 +1,165 @@
+//! Times the crate and the library on the same inputs in one process. A round is all inputs of a row on one side and
+//! then on the other; the best and the median of the rounds are printed, in nanoseconds for each input.
+
+use std::hint::black_box;
+use std::time::Instant;
+
+use naga::ir::Scalar;
+
+use crate::crate_side::{Asker, Crate, Expression};
+use crate::expressions::{self, ENOUGH_ROOM};
+use crate::generate::{self, Accepted, Generator};
+use crate::machine::LINE;
+use crate::numbering::{self, FUNCTIONS, NONE, SCALAR_COUNT};
+use crate::ours;
+use crate::random::Random;
+
+const INPUTS: usize = 20_000;
+const EXPRESSIONS: usize = 4_000;
+const ROUNDS: usize = 11;
+
+pub fn bench(seed: u64) {
+    let rules = Crate::new();
+    println!("seed {seed}, {ROUNDS} rounds of each side in turn, nanoseconds for each input");
+    println!(
+        "{:<38} {:>10} {:>10} {:>10} {:>10} {:>8} {:>8}",
+        "", "crate best", "median", "ours best", "median", "ratio", "median"
+    );
+    bench_calls(&rules, seed);
+    rules.with_consensus(|asker| bench_consensus(asker, seed));
+    bench_typing(&rules, seed);
+}
+
+/// Full resolution: the function's overloads are built, every argument is tried, the preferred rule is asked for.
+fn bench_calls(rules: &Crate, seed: u64) {
+    let accepted = generate::accepted_calls(rules);
+    let mut random = Random::new(seed);
+    let chosen = |choose: &dyn Fn(u8) -> bool| -> Vec<&Accepted> {
+        accepted.iter().filter(|call| choose(call.function)).collect()
+    };
+    let every = chosen(&|_| true);
+    let regulars = chosen(&|function| !numbering::is_list(function));
+    let lists = chosen(&numbering::is_list);
+    let by_function: Vec<Vec<&Accepted>> =
+        (0..FUNCTIONS.len() as u8).map(|number| chosen(&|function| function == number)).collect();
+    time_calls(rules, "calls, uniform over accepted calls", &mut || *random.pick(&every));
+    time_calls(rules, "calls, uniform over functions", &mut || {
+        let of_one = random.pick(&by_function);
+        *random.pick(of_one)
+    });
+    time_calls(rules, "calls, Regular only", &mut || *random.pick(&regulars));
+    time_calls(rules, "calls, List only", &mut || *random.pick(&lists));
+}
+
+fn time_calls<'a>(rules: &Crate, name: &str, draw: &mut dyn FnMut() -> &'a Accepted) {
+    let calls: Vec<&Accepted> = (0..INPUTS).map(|_| draw()).collect();
+    time(
+        name,
+        &calls,
+        |call| {
+            let _ = black_box(rules.preferred(call.function, &call.operands, false));
+        },
+        |call| {
+            black_box(ours::call(call.function, &call.operands, false));
+        },
+    );
+}
+
+/// A base or none, and components.
+struct Components {
+    base: u8,
+    codes: Vec<u8>,
+    /// The same for the crate.
+    scalar: Option<Scalar>,
+    expressions: Vec<Expression>,
+}
+
+/// Consensus of one to four components that mostly agree, half of them with a base.
+fn bench_consensus(asker: &Asker, seed: u64) {
+    let mut random = Random::new(seed);
+    let inputs: Vec<Components> = (0..INPUTS)
+        .map(|_| {
+            let concrete = 2 + random.below(usize::from(SCALAR_COUNT) - 2) as u8;
+            let length = 1 + random.below(4);
+            let mut draw = || *random.pick(&[0, 0, concrete, concrete, concrete]);
+            let codes: Vec<u8> = (0..length).map(|_| draw()).collect();
+            let base = draw();
+            let base = if random.once_in(2) { NONE } else { base };
+            let scalar = (base != NONE).then(|| numbering::scalar(base));
+            Components { base, scalar, expressions: asker.expressions(&codes), codes }
+        })
+        .collect();
+    time(
+        "consensus of 1 to 4 components",
+        &inputs,
+        |input| {
+            let _ = black_box(asker.ask(input.scalar, &input.expressions));
+        },
+        |input| {
+            black_box(ours::consensus(input.base, &input.codes));
+        },
+    );
+}
+
+/// Accepted expressions, typed with their worksheets. The crate has no such typer: its side is the independent one of
+/// this program over the crate's overload sets.
+fn bench_typing(rules: &Crate, seed: u64) {
+    let mut generator = Generator::new(rules, seed);
+    let mut inputs = Vec::with_capacity(EXPRESSIONS);
+    let mut nodes = 0;
+    while inputs.len() < EXPRESSIONS {
+        let bytes = generator.fitting();
+        let (typed, sheet) = expressions::type_expression(rules, &bytes, false);
+        if typed.number == 0 {
+            // Every line but a conversion is a node.
+            nodes += sheet.chunks(LINE).filter(|line| line[0] != 2).count();
+            inputs.push(bytes);
+        }
+    }
+    let mut buffer = vec![0; ENOUGH_ROOM];
+    time(
+        &format!("typing, {:.1} nodes on the average", nodes as f64 / EXPRESSIONS as f64),
+        &inputs,
+        |bytes| {
+            black_box(expressions::type_expression(rules, bytes, false));
+        },
+        |bytes| {
+            black_box(ours::type_expression(bytes, false, &mut buffer));
+        },
+    );
+}
+
+/// Times both sides on the inputs and prints a row.
+fn time<T>(name: &str, inputs: &[T], mut of_crate: impl FnMut(&T), mut of_ours: impl FnMut(&T)) {
+    let mut crate_rounds = Vec::with_capacity(ROUNDS);
+    let mut our_rounds = Vec::with_capacity(ROUNDS);
+    // The first round of each warms the caches and is not counted.
+    for round in 0..=ROUNDS {
+        let crate_round = nanoseconds(inputs, &mut of_crate);
+        let our_round = nanoseconds(inputs, &mut of_ours);
+        if round > 0 {
+            crate_rounds.push(crate_round);
+            our_rounds.push(our_round);
+        }
+    }
+    let (crate_best, crate_median) = best_and_median(&mut crate_rounds);
+    let (our_best, our_median) = best_and_median(&mut our_rounds);
+    println!(
+        "{name:<38} {crate_best:>10.1} {crate_median:>10.1} {our_best:>10.1} {our_median:>10.1} {:>8.2} {:>8.2}",
+        crate_best / our_best,
+        crate_median / our_median
+    );
+}
+
+fn nanoseconds<T>(inputs: &[T], work: &mut impl FnMut(&T)) -> f64 {
+    let start = Instant::now();
+    for input in inputs {
+        work(black_box(input));
+    }
+    start.elapsed().as_nanos() as f64 / inputs.len() as f64
+}
+
+fn best_and_median(rounds: &mut [f64]) -> (f64, f64) {
+    rounds.sort_by(f64::total_cmp);
+    (rounds[0], rounds[rounds.len() / 2])
+}

@@ -1,0 +1,261 @@
+//! The crate's side: naga's own overload sets and consensus, asked through its public interface, with the answers in
+//! document 01's numbers. Nothing of the resolution is repeated here. What is added is the order in which document 01
+//! asks (which argument empties the set, and what is refused before the crate is reached) and the numbering of rules.
+
+use naga::ir::{MathFunction, Module, Scalar, Type, TypeInner};
+use naga::proc::{Conclusion, OverloadSet, Rule, TypeResolution};
+use naga::{Handle, Span};
+
+use crate::numbering::{self, FUNCTIONS, LAST_CODE, NONE, OPAQUE};
+use crate::ours;
+
+/// A rule in type codes.
+#[derive(Clone, Debug, PartialEq, Eq)]
+pub struct RuleCodes {
+    pub arguments: Vec<u8>,
+    pub result: u8,
+}
+
+/// Why a call has no rule, with the number of the argument at fault.
+#[derive(Clone, Copy, Debug, PartialEq, Eq)]
+pub enum Refusal {
+    /// Refusal 5: too few or too many arguments.
+    Count,
+    /// Refusal 6: no rule is left after this argument, counted from 0.
+    Argument(usize),
+    /// Refusal 1: the concrete-only step left no rule.
+    Empty,
+}
+
+/// A call's answer and the mask of its surviving rules.
+#[derive(Clone, Copy, Debug, PartialEq, Eq)]
+pub struct Outcome {
+    pub call: ours::Call,
+    pub survivors: u64,
+}
+
+impl Outcome {
+    pub fn refused(number: u8, place: usize) -> Outcome {
+        Outcome { call: ours::Call::refused(number, place), survivors: 0 }
+    }
+}
+
+/// The crate with a type arena that holds every code, and each function's full listing.
+pub struct Crate {
+    module: Module,
+    /// The crate's type of each code.
+    inners: Vec<TypeInner>,
+    /// The same types in the module's arena.
+    handles: Vec<Handle<Type>>,
+    listings: Vec<Vec<RuleCodes>>,
+    arities: Vec<usize>,
+}
+
+impl Crate {
+    pub fn new() -> Crate {
+        let mut module = Module::default();
+        let mut inners = Vec::new();
+        let mut handles = Vec::new();
+        for code in 0..=LAST_CODE {
+            let handle = if code <= OPAQUE {
+                module.types.insert(Type { name: None, inner: numbering::inner(code) }, Span::UNDEFINED)
+            } else {
+                module.generate_predeclared_type(numbering::predeclared(code))
+            };
+            inners.push(module.types[handle].inner.clone());
+            handles.push(handle);
+        }
+        let mut made = Crate { module, inners, handles, listings: Vec::new(), arities: Vec::new() };
+        for function in FUNCTIONS {
+            let set = function.overloads();
+            assert_eq!(set.min_arguments(), set.max_arguments(), "{function:?} has rules of one length");
+            made.arities.push(set.max_arguments());
+            made.listings.push(made.codes_of(&set));
+        }
+        made
+    }
+
+    /// How many arguments a function takes.
+    pub fn arity(&self, function: u8) -> usize {
+        self.arities[function as usize]
+    }
+
+    /// A function's rules in the crate's order; none for an unknown function.
+    pub fn listing(&self, function: u8) -> &[RuleCodes] {
+        self.listings.get(function as usize).map_or(&[], Vec::as_slice)
+    }
+
+    /// The crate's argument step.
+    pub fn step<S: OverloadSet>(&self, set: &S, argument: usize, code: u8) -> S {
+        set.arg(argument, &self.inners[code as usize], &self.module.types)
+    }
+
+    /// Resolves a call of a known function with known types: the crate's own work and no more.
+    pub fn preferred(&self, function: u8, operands: &[u8], concrete_only: bool) -> Result<Rule, Refusal> {
+        let set = self.resolve(FUNCTIONS[function as usize], operands, concrete_only)?;
+        Ok(set.most_preferred())
+    }
+
+    fn resolve(
+        &self,
+        function: MathFunction,
+        operands: &[u8],
+        concrete_only: bool,
+    ) -> Result<impl OverloadSet, Refusal> {
+        let mut set = function.overloads();
+        if operands.len() < set.min_arguments() || operands.len() > set.max_arguments() {
+            return Err(Refusal::Count);
+        }
+        for (argument, &code) in operands.iter().enumerate() {
+            set = self.step(&set, argument, code);
+            if set.is_empty() {
+                return Err(Refusal::Argument(argument));
+            }
+        }
+        self.concrete(set, concrete_only)
+    }
+
+    fn concrete<S: OverloadSet>(&self, set: S, concrete_only: bool) -> Result<S, Refusal> {
+        let set = if concrete_only { set.concrete_only(&self.module.types) } else { set };
+        if set.is_empty() {
+            Err(Refusal::Empty)
+        } else {
+            Ok(set)
+        }
+    }
+
+    /// A single call, with the tests that document 01 puts before the crate's.
+    pub fn call(&self, function: u8, operands: &[u8], concrete_only: bool) -> Outcome {
+        if usize::from(function) >= FUNCTIONS.len() {
+            return Outcome::refused(7, 0);
+        }
+        if let Some(unknown) = operands.iter().position(|&code| code > LAST_CODE) {
+            return Outcome::refused(7, 1 + unknown);
+        }
+        match self.resolve(FUNCTIONS[function as usize], operands, concrete_only) {
+            Ok(set) => self.accepted(function, &set),
+            Err(Refusal::Count) => Outcome::refused(5, 0),
+            Err(Refusal::Argument(argument)) => Outcome::refused(6, 1 + argument),
+            Err(Refusal::Empty) => Outcome::refused(1, 0),
+        }
+    }
+
+    /// The answer of a call whose arguments left `set`, which has rules.
+    pub fn concluded<S: OverloadSet>(&self, function: u8, set: &S, concrete_only: bool) -> Outcome {
+        match self.concrete(set.clone(), concrete_only) {
+            Ok(set) => self.accepted(function, &set),
+            Err(_) => Outcome::refused(1, 0),
+        }
+    }
+
+    fn accepted<S: OverloadSet>(&self, function: u8, set: &S) -> Outcome {
+        let index = self.index(function, &set.most_preferred());
+        let rule = &self.listing(function)[index as usize];
+        let call = ours::Call { number: 0, index, result: rule.result, count: rule.arguments.len() as u8, place: 0 };
+        Outcome { call, survivors: self.survivors(function, set) }
+    }
+
+    /// The first index in the function's full listing that holds this rule. Rules that are listed twice are alike in
+    /// all that a step looks at, so they stay or go together, and the first of them is the preferred one.
+    pub fn index(&self, function: u8, rule: &Rule) -> u8 {
+        let codes = rule_codes(rule);
+        let place = self.listing(function).iter().position(|listed| *listed == codes);
+        place.expect("the preferred rule is one of the listing") as u8
+    }
+
+    fn survivors<S: OverloadSet>(&self, function: u8, set: &S) -> u64 {
+        let left = self.codes_of(set);
+        let mut mask = 0u64;
+        for (index, rule) in self.listing(function).iter().enumerate() {
+            if left.contains(rule) {
+                mask |= 1 << index;
+            }
+        }
+        assert_eq!(mask.count_ones() as usize, left.len(), "equal rules stay or go together");
+        mask
+    }
+
+    fn codes_of<S: OverloadSet>(&self, set: &S) -> Vec<RuleCodes> {
+        set.overload_list(&self.module.to_ctx()).iter().map(rule_codes).collect()
+    }
+
+    /// One rule, in the form that the library answers it.
+    pub fn rule(&self, function: u8, index: u8) -> ours::Rule {
+        let known = usize::from(function) < FUNCTIONS.len();
+        match self.listing(function).get(index as usize) {
+            Some(rule) => {
+                let mut arguments = [NONE; 4];
+                arguments[..rule.arguments.len()].copy_from_slice(&rule.arguments);
+                let count = rule.arguments.len() as u8;
+                ours::Rule { number: 0, arguments, count, result: rule.result, place: 0 }
+            }
+            None => ours::Rule { number: 7, arguments: [NONE; 4], count: NONE, result: NONE, place: u8::from(known) },
+        }
+    }
+
+    /// Lends the crate's consensus over type codes. The front end's own context is built once, so `body` asks as often
+    /// as it likes.
+    pub fn with_consensus<R>(&self, body: impl FnOnce(&Asker) -> R) -> R {
+        let mut module = self.module.clone();
+        naga::front::wgsl::oracle::with_consensus(&mut module, &self.handles, |ask, expressions| {
+            body(&Asker { ask, expressions })
+        })
+    }
+}
+
+/// An expression of the front end's context.
+pub type Expression = naga::front::wgsl::oracle::Expr;
+
+/// The crate's function: a base or none, components, and the scalar or the component at fault.
+type Ask<'a> = dyn Fn(Option<Scalar>, &[Expression]) -> Result<Scalar, usize> + 'a;
+
+/// The crate's consensus, with an expression of each type code.
+pub struct Asker<'a> {
+    ask: &'a Ask<'a>,
+    expressions: &'a [Expression],
+}
+
+impl Asker<'_> {
+    /// Expressions of these types.
+    pub fn expressions(&self, components: &[u8]) -> Vec<Expression> {
+        components.iter().map(|&code| self.expressions[code as usize]).collect()
+    }
+
+    /// The crate's own function; it panics where there is neither base nor component.
+    pub fn ask(&self, base: Option<Scalar>, components: &[Expression]) -> Result<Scalar, usize> {
+        (self.ask)(base, components)
+    }
+
+    /// A consensus, with the tests that document 01 puts before the crate's.
+    pub fn consensus(&self, base: u8, components: &[u8]) -> ours::Consensus {
+        if base != NONE && base >= numbering::SCALAR_COUNT {
+            return ours::Consensus::refused(7, 0);
+        }
+        if let Some(unknown) = components.iter().position(|&code| code > LAST_CODE) {
+            return ours::Consensus::refused(7, 1 + unknown);
+        }
+        if base == NONE && components.is_empty() {
+            return ours::Consensus::refused(11, 0);
+        }
+        let base = (base != NONE).then(|| numbering::scalar(base));
+        match self.ask(base, &self.expressions(components)) {
+            Ok(scalar) => ours::Consensus { number: 0, scalar: numbering::scalar_number(scalar), place: 0 },
+            Err(component) => ours::Consensus::refused(12, component),
+        }
+    }
+}
+
+/// A rule of the crate in type codes.
+pub fn rule_codes(rule: &Rule) -> RuleCodes {
+    let argument = |resolution: &TypeResolution| match resolution {
+        TypeResolution::Value(inner) => numbering::code(inner),
+        TypeResolution::Handle(_) => panic!("no rule of a math function names a type of the arena"),
+    };
+    RuleCodes {
+        arguments: rule.arguments.iter().map(argument).collect(),
+        result: match &rule.conclusion {
+            Conclusion::Value(inner) => numbering::code(inner),
+            Conclusion::Predeclared(result) => numbering::predeclared_code(result),
+        },
+    }
+}

@@ -1,0 +1,138 @@
+//! Document 01's readings at the bench for calls, consensus and expressions. Where it prints a part of an answer, the rest
+//! was worked out by hand from its rules. Both sides must give them, so the other side of the comparison is held to the
+//! document, too.
+
+use crate::crate_side::{Asker, Crate, Outcome};
+use crate::expressions;
+use crate::numbering::NONE;
+use crate::ours::{self, Call, Consensus, Typed};
+
+/// A question, the document's answer, and those of the crate's side and ours, all in the same words.
+pub struct Reading {
+    pub question: String,
+    pub printed: String,
+    pub of_crate: String,
+    pub of_ours: String,
+}
+
+pub fn readings(rules: &Crate) -> Vec<Reading> {
+    let mut readings = calls(rules);
+    readings.extend(rules.with_consensus(consensus));
+    readings.extend(typing(rules));
+    readings
+}
+
+fn calls(rules: &Crate) -> Vec<Reading> {
+    let accepted = |index: u8, result: u8, count: u8, survivors: u64| Outcome {
+        call: Call { number: 0, index, result, count, place: 0 },
+        survivors,
+    };
+    let table: [(&str, u8, &[u8], Outcome); 8] = [
+        ("Clamp", 4, &[0, 5, 0], accepted(5, 5, 3, 1 << 5)),
+        ("Sin", 5, &[5], Outcome::refused(6, 1)),
+        ("Sin", 5, &[0], accepted(0, 1, 1, 0b1111)),
+        ("Distance", 66, &[0, 0], accepted(0, 8, 2, 0b111)),
+        ("Pow", 32, &[8, 9], Outcome::refused(6, 2)),
+        ("Mix", 72, &[8, 8, 8], accepted(8, 8, 3, 1 << 8 | 1 << 9)),
+        ("Mix", 72, &[20, 20, 8], accepted(11, 20, 3, 1 << 11)),
+        ("Transpose", 74, &[61], accepted(4, 85, 1, 0b1111 << 4)),
+    ];
+    let ask = |(name, function, operands, printed): (&str, u8, &[u8], Outcome)| {
+        let call = ours::call(function, operands, false);
+        let survivors = ours::survivors(function, operands, false);
+        Reading {
+            question: format!("{name}{operands:?}"),
+            printed: format!("{printed:?}"),
+            of_crate: format!("{:?}", rules.call(function, operands, false)),
+            of_ours: format!("{:?}", Outcome { call, survivors }),
+        }
+    };
+    table.map(ask).into()
+}
+
+fn consensus(asker: &Asker) -> Vec<Reading> {
+    let table: [(u8, &[u8], Consensus); 3] = [
+        (NONE, &[0, 5, 1], Consensus::refused(12, 2)),
+        (NONE, &[0, 8, 1], Consensus { number: 0, scalar: 8, place: 0 }),
+        (1, &[2], Consensus::refused(12, 0)),
+    ];
+    let ask = |(base, components, printed): (u8, &[u8], Consensus)| Reading {
+        question: format!("consensus of {components:?}, base {base}"),
+        printed: format!("{printed:?}"),
+        of_crate: format!("{:?}", asker.consensus(base, components)),
+        of_ours: format!("{:?}", ours::consensus(base, components)),
+    };
+    table.map(ask).into()
+}
+
+fn typing(rules: &Crate) -> Vec<Reading> {
+    let accepted = |type_code: u8| Typed { number: 0, type_code, place: 0 };
+    let clamp = vec![1, 4, 3, 0, 0, 0, 5, 0, 0];
+    let clamp_sheet = vec![0, 0, 0, 0, 0, 5, 0, 0, 0, 0, 0, 0, 2, 2, 5, 0, 2, 0, 5, 0, 1, 4, 5, 3];
+    let room = expressions::ENOUGH_ROOM;
+    let printed = |bytes, room, typed, sheet| Expression { bytes, room, typed, sheet };
+    let table = [
+        printed(vec![], room, Typed::refused(8, 0), None),
+        printed(vec![0, 156], room, accepted(156), Some(vec![0, 156, 0, 0])),
+        printed(vec![0, 157], room, Typed::refused(7, 1), None),
+        printed(clamp.clone(), room, accepted(5), Some(clamp_sheet.clone())),
+        printed(clamp.clone(), 24, accepted(5), Some(clamp_sheet)),
+        printed(clamp, 23, Typed::refused(10, 24), None),
+        // Pow(Distance(1, 1), 9): Distance has already answered F32.
+        printed(vec![1, 32, 2, 1, 66, 2, 0, 1, 0, 1, 0, 9], room, Typed::refused(6, 10), None),
+        printed(vec![1, 78, 4, 0, 2, 0, 2, 0, 5, 0, 5], room, accepted(2), None),
+        printed(vec![1, 79, 0], room, Typed::refused(7, 1), None),
+        printed(chain(16), room, accepted(8), None),
+        printed(chain(17), room, Typed::refused(9, 48), None),
+        printed(tree(1), room, accepted(8), None),
+        printed(tree(2), room, Typed::refused(9, 161), None),
+        printed(tree(1), 256, accepted(8), None),
+        printed(tree(1), 255, Typed::refused(10, 256), None),
+    ];
+    table.into_iter().map(|expression| expression.ask(rules)).collect()
+}
+
+/// An expression, the room it is given, and the answer, with the worksheet where the document prints it.
+struct Expression {
+    bytes: Vec<u8>,
+    room: usize,
+    typed: Typed,
+    sheet: Option<Vec<u8>>,
+}
+
+impl Expression {
+    fn ask(&self, rules: &Crate) -> Reading {
+        let answer = expressions::type_expression(rules, &self.bytes, false);
+        let (typed, sheet) = expressions::in_room(&answer, self.room);
+        let mut buffer = vec![0; self.room];
+        let answered = ours::type_expression(&self.bytes, false, &mut buffer);
+        Reading {
+            question: format!("expression {:?} with room {}", self.bytes, self.room),
+            printed: self.words(self.typed, self.sheet.as_deref().unwrap_or(&[])),
+            of_crate: self.words(typed, sheet),
+            of_ours: self.words(answered, &buffer),
+        }
+    }
+
+    /// An answer in words, with as much of the worksheet as is printed.
+    fn words(&self, typed: Typed, written: &[u8]) -> String {
+        let printed = self.sheet.as_ref().map_or(0, Vec::len);
+        format!("{typed:?} {:?}", &written[..written.len().min(printed)])
+    }
+}
+
+/// Abs over Abs and so on over a leaf, of that depth.
+fn chain(depth: usize) -> Vec<u8> {
+    let mut bytes = [1, 0, 1].repeat(depth - 1);
+    bytes.extend([0, 8]);
+    bytes
+}
+
+/// So many times Abs over an even tree of Max with 32 leaves, which has 63 nodes.
+fn tree(abs: usize) -> Vec<u8> {
+    let mut even = vec![0, 8];
+    for _ in 0..5 {
+        even = [&[1, 3, 2], &even[..], &even[..]].concat();
+    }
+    [[1, 0, 1].repeat(abs), even].concat()
+}
