@@ -13,7 +13,9 @@ use Rattle.domain.specs.Mask.{choose, either}
 use Rattle.domain.specs.Domain.{firstUnknown}
 use Rattle.overloads.specs.Signature.{Signature}
 use Rattle.overloads.specs.Rule.{argumentsOf, ruleOf}
-use Rattle.overloads.specs.Choice.{Entry, number, Narrowed, left, emptied, narrow, Choice, chosen, wrongCount, noneAfter, noneConcrete, first, concreteStep, afterOperands, longest, resolve}
+use Rattle.overloads.specs.Choice.{Choice, chosen, wrongCount, noneAfter, noneConcrete, resolve}
+use Rattle.overloads.specs.Taking.{Says}
+use Rattle.overloads.proofs.Choices.{resolve-says}
 use Rattle.overloads.specs.Functions.{functionCount, listingOf}
 use Rattle.overloads.specs.Call.{answered, callOf}
 use Rattle.domain.specs.Refusal.{numberOf, placeOf}
@@ -24,8 +26,6 @@ use Rattle.domain.specs.declared.refusal.Refusal.{Refusal}
 use Rattle.domain.specs.declared.refusal.Refusal.the-variants.{Unknown}
 use Rattle.worksheet.specs.Machine.{mostOperands}
 use Rattle.worksheet.specs.SecondPass.{Within}
-use Rattle.worksheet.proofs.Narrowing.{Narrows, narrow-narrows}
-use Rattle.worksheet.proofs.Choice.{Answers, resolve-answers}
 use Rattle.worksheet.proofs.Database.{one-length, four-arguments, result-known}
 
 -- a rule of at most four arguments is the meaning of its record
@@ -41,32 +41,6 @@ fields-hold r h = go (r .arguments) h
     go (a ∷ b ∷ c ∷ d ∷ []) k = refl
     go (a ∷ b ∷ c ∷ d ∷ e ∷ az) k = absurd (omega arith)
 
--- the operand after which no rule is left
-abbrev Inside : List ℕ → Choice → Type 0
-Inside ts (chosen i r) = Unit
-Inside ts wrongCount = Unit
-Inside ts (noneAfter k) = k < length ts
-Inside ts noneConcrete = Unit
-
-first-inside : (ts : List ℕ) (s : List Entry) → Inside ts (first s)
-first-inside ts [] = tt
-first-inside ts (x ∷ xs) = tt
-
-after-inside : (switch : Bool) (ts : List ℕ) (s : List Entry) (y : Narrowed) → Narrows ts 0 s y → Inside ts (afterOperands switch y)
-after-inside switch ts s (left s′) h = first-inside ts (concreteStep switch s′)
-after-inside switch ts s (emptied j) h =
-    let e : j ≡ 0 + h .0 = h .1 in
-    let l : h .0 < length ts = h .2 in
-    omega arith
-
-resolve-inside : (switch : Bool) (rules : List Signature) (ts : List ℕ) → Inside ts (resolve switch rules ts)
-unfolding resolve
-resolve-inside switch rules ts = go (either (ltb (length ts) (longest rules)) (ltb (longest rules) (length ts)))
-  where
-    go : (b : Bool) → Inside ts (choose b wrongCount (afterOperands switch (narrow ts 0 (number 0 rules))))
-    go true = tt
-    go false = after-inside switch ts (number 0 rules) (narrow ts 0 (number 0 rules)) (narrow-narrows ts 0 (number 0 rules))
-
 -- what is known of a choice
 pub record Ruled (ts : List ℕ) (r : Signature) : Type 0 where
   pub fields : argumentsOf (ruleOf r) ≡ r .arguments
@@ -80,20 +54,18 @@ Chose ts (noneAfter k) = k < length ts
 Chose ts noneConcrete = Unit
 
 module _ (switch : Bool) (f : ℕ) (ts : List ℕ) where
-  chose-from : (c : Choice) → Inside ts c → Answers switch (listingOf f) ts 0 [] c → Chose ts c
-  chose-from (chosen i r) h b = record {
+  chose-from : (c : Choice) → Says switch (listingOf f) ts c → Chose ts c
+  chose-from (chosen i r) b = record {
     fields = fields-hold r (four-arguments f i r (b .there));
     many = b .taken .many;
     known = result-known f i r (b .there);
   }
-  chose-from wrongCount h b = tt
-  chose-from (noneAfter k) h b = h
-  chose-from noneConcrete h b = tt
+  chose-from wrongCount n = tt
+  chose-from (noneAfter k) e = e .there
+  chose-from noneConcrete d = tt
 
   pub chose : Chose ts (resolve switch (listingOf f) ts)
-  chose =
-      chose-from (resolve switch (listingOf f) ts) (resolve-inside switch (listingOf f) ts)
-      (resolve-answers switch (listingOf f) ts 0 [] (one-length f))
+  chose = chose-from (resolve switch (listingOf f) ts) (resolve-says switch (listingOf f) ts (one-length f))
 
   -- what is known of an answer, whatever was asked
   abbrev Fine : CallAnswer → Type 0

@@ -1,119 +1,17 @@
--- The rule that a call's steps choose is the first of its listing that takes the operands; where they choose none, what they answer
--- is what is wrong. For a listing of one rule length, with the concrete-only switch on or off.
--- Assumes nothing.
-use mathlib.Core.Path.{_≡_, refl, sym, ap, _∙_}
-use mathlib.Core.Bool.{Bool, true, false, true≢false, false≢true}
-use mathlib.Core.List.{List, [], _∷_}
-use Prim.Native.Nat.{ℕ, zero, suc, _+_, _≤_, _<_}
-use native.Mathlib.Omega.{arith}
-use lib.Dec.{ltb}
-use lib.ListN.{length, getD, take, length-take}
-use lib.Seq.{getD-take}
-use borrow.Author.Tests.{ltb-true, ltb-false}
-use Rattle.domain.specs.Mask.{choose, both, either}
-use Rattle.overloads.specs.Signature.{Signature, reaches, takesAt, takes, concrete}
-use Rattle.overloads.specs.Choice.{Entry, number, keep, longest, Narrowed, left, emptied, narrow, Choice, chosen, wrongCount, noneAfter, noneConcrete, first, concreteStep, afterOperands, resolve}
+-- What the choice for a call says, as the answer in an expression: the best rule, or what is at fault and where.
+-- By the law of `overloads` for every listing of one rule length. Assumes nothing.
+use mathlib.Core.Bool.{Bool}
+use mathlib.Core.List.{List}
+use Prim.Native.Nat.{ℕ}
+use lib.ListN.{getD}
 use Rattle.domain.specs.declared.refusal.Refusal.the-variants.{EmptySet, WrongCount, NoRuleLeft}
-use Rattle.worksheet.specs.Meaning.{Takes, NoRule, Best, OneLength}
-use Rattle.worksheet.specs.Fault.{LeftAfter, Fault, wrongNumber, noneLeft, noneTakes}
-use Rattle.worksheet.proofs.Tests.{both-left, both-right, both-true}
-use Rattle.worksheet.proofs.Filters.{keep-keep, keep-every, IsFirst, none-passes, first-is}
-use Rattle.worksheet.proofs.Narrowing.{takesFrom, Some, Narrows, narrow-narrows}
+use Rattle.overloads.specs.Signature.{Signature}
+use Rattle.overloads.specs.Choice.{Choice, chosen, wrongCount, noneAfter, noneConcrete, resolve}
+use Rattle.overloads.specs.Taking.{Best, OneLength, Says}
+use Rattle.overloads.proofs.Choices.{resolve-says}
+use Rattle.worksheet.specs.Fault.{Fault, wrongNumber, noneLeft, noneTakes}
 
--- the concrete-only step, where the switch is on
-abbrev permits : Bool → Signature → Bool
-permits false r = true
-permits true r = concrete r
-
--- all the steps as one test
-abbrev passes : Bool → List ℕ → Signature → Bool
-passes switch ts r = both (takesFrom 0 ts r) (permits switch r)
-
-concrete-keeps : (switch : Bool) (s : List Entry) → concreteStep switch s ≡ keep (permits switch) s
-concrete-keeps false s = sym (keep-every s)
-concrete-keeps true s = refl
-
--- the argument steps are a test of each argument
-takes-at : (k t : ℕ) (az : List ℕ) → takesAt k t az ≡ true → (k < length az) × (reaches t (getD az k 0) ≡ true)
-takes-at k t [] e = absurd (false≢true e)
-takes-at zero t (a ∷ az) e = (omega arith, e)
-takes-at (suc k) t (a ∷ az) e = let h = takes-at k t az e in (omega arith, h .1)
-
-at-takes : (k t : ℕ) (az : List ℕ) → k < length az → reaches t (getD az k 0) ≡ true → takesAt k t az ≡ true
-at-takes k t [] h e = absurd (omega arith)
-at-takes zero t (a ∷ az) h e = e
-at-takes (suc k) t (a ∷ az) h e = at-takes k t az (omega arith) e
-
-reached-from : (ts : List ℕ) (k : ℕ) (r : Signature) → takesFrom k ts r ≡ true → (j : ℕ) → j < length ts
-    → (k + j < length (r .arguments)) × (reaches (getD ts j 0) (getD (r .arguments) (k + j) 0) ≡ true)
-reached-from [] k r e j h = absurd (omega arith)
-reached-from (t ∷ ts) k r e zero h =
-    let z : k + 0 ≡ k = omega arith in
-    rw z (takes-at k t (r .arguments) (both-left (takes k t r) (takesFrom (suc k) ts r) e))
-reached-from (t ∷ ts) k r e (suc j) h =
-    let z : k + suc j ≡ suc k + j = omega arith in
-    rw z (reached-from ts (suc k) r (both-right (takes k t r) (takesFrom (suc k) ts r) e) j (omega arith))
-
-from-reached : (ts : List ℕ) (k : ℕ) (r : Signature) → k + length ts ≤ length (r .arguments)
-    → ((j : ℕ) → j < length ts → reaches (getD ts j 0) (getD (r .arguments) (k + j) 0) ≡ true) → takesFrom k ts r ≡ true
-from-reached [] k r l h = refl
-from-reached (t ∷ ts) k r l h =
-    let z : k + 0 ≡ k = omega arith in
-    both-true (at-takes k t (r .arguments) (omega arith) (rw z at (h 0 (omega arith))))
-    (from-reached ts (suc k) r (omega arith)
-    (λ j lt. let z′ : k + suc j ≡ suc k + j = omega arith in rw z′ at (h (suc j) (omega arith))))
-
-plain : (j : ℕ) → 0 + j ≡ j
-plain j = omega arith
-
-allowed-only : (switch : Bool) (r : Signature) → permits switch r ≡ true → switch ≡ true → concrete r ≡ true
-allowed-only false r e c = absurd (false≢true c)
-allowed-only true r e c = e
-
-only-allowed : (switch : Bool) (r : Signature) → (switch ≡ true → concrete r ≡ true) → permits switch r ≡ true
-only-allowed false r h = refl
-only-allowed true r h = h refl
-
--- the whole test is `Takes`, for a rule with as many arguments as there are operands
-module _ (switch : Bool) (ts : List ℕ) (r : Signature) where
-  passes-takes : length ts ≡ length (r .arguments) → passes switch ts r ≡ true → Takes switch ts r
-  passes-takes l e =
-      record {
-        many = l;
-        reached = λ j h. rw plain at (reached-from ts 0 r (both-left (takesFrom 0 ts r) (permits switch r) e) j h .1);
-        allowed = allowed-only switch r (both-right (takesFrom 0 ts r) (permits switch r) e);
-      }
-
-  takes-passes : Takes switch ts r → passes switch ts r ≡ true
-  takes-passes h =
-      let l : length ts ≡ length (r .arguments) = h .many in
-      both-true (from-reached ts 0 r (omega arith) (λ j lt. rw plain (h .reached j lt))) (only-allowed switch r (h .allowed))
-
--- the test of the first operands is `LeftAfter`
-module _ (rules : List Signature) (ts : List ℕ) (k : ℕ) (h : k < length ts) where
-  some-left : Some (keep (takesFrom 0 (take (suc k) ts)) (number 0 rules)) → LeftAfter rules ts k
-  some-left s =
-      let f = first-is (takesFrom 0 (take (suc k) ts)) rules (s .0) (s .1) (s .2) in
-      let l : length (take (suc k) ts) ≡ suc k = length-take (suc k) ts ∙ omega arith in
-      let g = reached-from (take (suc k) ts) 0 (s .1) (f .passes) in
-      record {
-        index = s .0;
-        rule = s .1;
-        there = f .there;
-        long = rw plain at (g k (omega arith) .0);
-        reached = λ j le. let e : j < suc k = omega arith in rw (plain, getD-take (suc k) ts j 0 e) at (g j (omega arith) .1);
-      }
-
-  none-left : keep (takesFrom 0 (take (suc k) ts)) (number 0 rules) ≡ [] → LeftAfter rules ts k → ⊥
-  none-left e w =
-      let l : length (take (suc k) ts) ≡ suc k = length-take (suc k) ts ∙ omega arith in
-      let n = w .long in
-      true≢false (sym
-      (from-reached (take (suc k) ts) 0 (w .rule) (omega arith)
-      (λ j lt. let lt′ : j < suc k = omega arith in rw (plain, getD-take (suc k) ts j 0 lt′) (w .reached j (omega arith))))
-      ∙ none-passes (takesFrom 0 (take (suc k) ts)) rules 0 e (w .index) (w .rule) (w .there))
-
--- what the steps answer, for a call at a place, with its arguments' places
+-- for a call at a place, with its arguments' places
 module _ (switch : Bool) (rules : List Signature) (ts : List ℕ) (at : ℕ) (places : List ℕ) where
   abbrev pub Answers : Choice → Type 0
   Answers (chosen i r) = Best switch rules ts i r
@@ -121,43 +19,11 @@ module _ (switch : Bool) (rules : List Signature) (ts : List ℕ) (at : ℕ) (pl
   Answers (noneAfter k) = Fault switch rules ts at places (NoRuleLeft (getD places k 0))
   Answers noneConcrete = Fault switch rules ts at places (EmptySet at)
 
-  module _ (one : OneLength rules) where
-    no-rule : keep (passes switch ts) (number 0 rules) ≡ [] → NoRule switch rules ts
-    unfolding NoRule
-    no-rule e i r h t = true≢false (sym (takes-passes switch ts r t) ∙ none-passes (passes switch ts) rules 0 e i r h)
+  says-answers : (c : Choice) → Says switch rules ts c → Answers c
+  says-answers (chosen i r) b = b
+  says-answers wrongCount n = wrongNumber n
+  says-answers (noneAfter k) e = noneLeft (e .counted) (e .there) (e .before) (e .none)
+  says-answers noneConcrete d = noneTakes (d .counted) (d .after) (d .none)
 
-    best : length ts ≡ longest rules → (i : ℕ) (r : Signature) → IsFirst (passes switch ts) rules i r → Best switch rules ts i r
-    unfolding OneLength
-    best l i r f =
-        record {
-          there = f .there;
-          taken = passes-takes switch ts r (l ∙ sym (one i r (f .there))) (f .passes);
-          earliest = λ j lt r′ h t. true≢false (sym (takes-passes switch ts r′ t) ∙ f .earliest j lt r′ h);
-        }
-
-    first-answers : length ts ≡ longest rules → ((j : ℕ) → j < length ts → LeftAfter rules ts j)
-        → (s : List Entry) → s ≡ keep (passes switch ts) (number 0 rules) → Answers (first s)
-    first-answers l w [] e = noneTakes l w (no-rule (sym e))
-    first-answers l w (x ∷ xs) e = best l (x .index) (x .rule) (first-is (passes switch ts) rules (x .index) (x .rule) (ap first (sym e)))
-
-    narrowed-answers : length ts ≡ longest rules → (y : Narrowed) → Narrows ts 0 (number 0 rules) y → Answers (afterOperands switch y)
-    narrowed-answers l (left s) h =
-        first-answers l (λ j lt. some-left rules ts j lt (h .1 j lt)) (concreteStep switch s)
-        (ap (concreteStep switch) (h .0) ∙ concrete-keeps switch (keep (takesFrom 0 ts) (number 0 rules))
-        ∙ keep-keep (takesFrom 0 ts) (permits switch) (number 0 rules))
-    narrowed-answers l (emptied k) h =
-        let m : k ≡ h .0 = h .1 ∙ plain (h .0) in
-        let lt : h .0 < length ts = h .2 in
-        rw m (noneLeft l lt (λ j lt′. some-left rules ts j (omega arith) (h .4 j lt′)) (none-left rules ts (h .0) lt (h .3)))
-
-    pub resolve-answers : Answers (resolve switch rules ts)
-    unfolding resolve
-    resolve-answers = go (ltb (length ts) (longest rules)) (ltb (longest rules) (length ts)) refl refl
-      where
-        go : (b c : Bool) → ltb (length ts) (longest rules) ≡ b → ltb (longest rules) (length ts) ≡ c
-            → Answers (choose (either b c) wrongCount (afterOperands switch (narrow ts 0 (number 0 rules))))
-        go true c e e′ = wrongNumber (λ l. omega (arith, ltb-true (length ts) (longest rules) e))
-        go false true e e′ = wrongNumber (λ l. omega (arith, ltb-true (longest rules) (length ts) e′))
-        go false false e e′ =
-            narrowed-answers (omega (arith, ltb-false (length ts) (longest rules) e, ltb-false (longest rules) (length ts) e′))
-            (narrow ts 0 (number 0 rules)) (narrow-narrows ts 0 (number 0 rules))
+  pub resolve-answers : OneLength rules → Answers (resolve switch rules ts)
+  resolve-answers one = says-answers (resolve switch rules ts) (resolve-says switch rules ts one)

@@ -14,8 +14,8 @@ use Rattle.domain.specs.Domain.{value?, known?}
 use Rattle.domain.proofs.Filters.{both-left, both-right}
 use Rattle.overloads.specs.Signature.{Signature}
 use Rattle.overloads.specs.Functions.{functionCount, listingOf, rulesIn}
+use Rattle.overloads.specs.Taking.{OneLength}
 use Rattle.overloads.proofs.Database as database
-use Rattle.worksheet.specs.Meaning.{OneLength}
 
 -- a test that every rule passes, at one of them
 picked : (p : Signature → Bool) (rs : List Signature) (i : ℕ) (r : Signature) → every p rs ≡ true → getElem? rs i ≡ some r → p r ≡ true

@@ -20,13 +20,14 @@ use native.Mathlib.Omega.{arith}
 use lib.ListN.{length}
 use borrow.Author.Tests.{le-leb}
 use Rattle.overloads.specs.Signature.{Signature}
+use Rattle.overloads.specs.Taking.{OneLength}
 use Rattle.domain.specs.declared.refusal.Refusal.{Refusal}
 use Rattle.worksheet.specs.Tree.{Tree, WellFormed}
 use Rattle.worksheet.specs.Line.{Line, encode}
 use Rattle.worksheet.specs.Machine.{ended, step, run, runBytes}
 use Rattle.worksheet.specs.Typer.{Typed, typed, refused, typeOf}
 use Rattle.worksheet.specs.Answer.{withRoom, enoughBytes, answer}
-use Rattle.worksheet.specs.Meaning.{OneLength, order, ownOf, Gives, Stuck}
+use Rattle.worksheet.specs.Meaning.{order, ownOf, Gives, Stuck}
 use Rattle.worksheet.specs.Fault.{Fails}
 use Rattle.worksheet.proofs.Exact.{Means, means, gives-typed, fails-refused, fails-stuck, not-both}
 use Rattle.worksheet.proofs.Own.{own}

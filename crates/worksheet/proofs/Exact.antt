@@ -9,12 +9,13 @@ use Prim.Native.Nat.{ℕ, _<_}
 use native.Mathlib.Omega.{arith}
 use Rattle.overloads.specs.Signature.{Signature}
 use Rattle.overloads.specs.Choice.{Choice, chosen, wrongCount, noneAfter, noneConcrete, resolve}
+use Rattle.overloads.specs.Taking.{NoRule, Best, OneLength}
 use Rattle.domain.specs.declared.refusal.Refusal.{Refusal}
 use Rattle.worksheet.specs.Tree.{Tree, Trees, leaf, call, none, more}
 use Rattle.worksheet.specs.Line.{Line, callLines}
 use Rattle.worksheet.specs.Places.{inside, behind, starts}
 use Rattle.worksheet.specs.Typer.{Typed, typed, refused, Operands, operands, refusedAmong, before, conclude, concludeCall, typeOf, typeAll}
-use Rattle.worksheet.specs.Meaning.{NoRule, Best, OneLength, Gives, leafGives, callGives, GiveAll, noneGive, moreGive, Stuck, atArgument, atCall, StuckAmong, firstStuck, laterStuck}
+use Rattle.worksheet.specs.Meaning.{Gives, leafGives, callGives, GiveAll, noneGive, moreGive, Stuck, atArgument, atCall, StuckAmong, firstStuck, laterStuck}
 use Rattle.worksheet.specs.Fault.{Fault, Fails, failsInside, failsHere, FailsAmong, failsFirst, failsLater}
 use Rattle.worksheet.proofs.Choice.{Answers, resolve-answers}
 use Rattle.worksheet.proofs.Faults.{fault-one, fault-no-rule}

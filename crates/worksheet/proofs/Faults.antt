@@ -12,10 +12,10 @@ use native.Mathlib.Omega.{arith}
 use lib.ListN.{length, getD, getElem?}
 use Rattle.overloads.specs.Signature.{Signature}
 use Rattle.overloads.specs.Choice.{longest}
+use Rattle.overloads.specs.Taking.{Takes, NoRule, OneLength, LeftAfter}
 use Rattle.domain.specs.declared.refusal.Refusal.{Refusal}
 use Rattle.domain.specs.declared.refusal.Refusal.the-variants.{EmptySet, NoRuleLeft}
-use Rattle.worksheet.specs.Meaning.{Takes, NoRule, OneLength}
-use Rattle.worksheet.specs.Fault.{LeftAfter, Fault, wrongNumber, noneLeft, noneTakes}
+use Rattle.worksheet.specs.Fault.{Fault, wrongNumber, noneLeft, noneTakes}
 
 -- a rule that is left after the last operand takes them all, with the switch off
 left-takes : (rules : List Signature) (ts : List ℕ) (i : ℕ) (r : Signature) → OneLength rules → getElem? rules i ≡ some r

@@ -9,9 +9,10 @@ use native.Mathlib.Omega.{arith}
 use lib.Dec.{eqb}
 use lib.ListN.{length, getD, getElem?}
 use Rattle.overloads.specs.Signature.{Signature, reaches}
+use Rattle.overloads.specs.Taking.{Best}
 use Rattle.worksheet.specs.Tree.{Tree, Trees, leaf, call, none, more, nodes, nodesAll, mostNodes, Known, KnownAll}
 use Rattle.worksheet.specs.Line.{Line, conversionLine, callLine, unlessSame, conversions, callLines, encode, AreBytes}
-use Rattle.worksheet.specs.Meaning.{Best, Gives, leafGives, callGives, GiveAll, noneGive, moreGive}
+use Rattle.worksheet.specs.Meaning.{Gives, leafGives, callGives, GiveAll, noneGive, moreGive}
 use Rattle.worksheet.proofs.LineBytes.{encode-append}
 use Rattle.worksheet.proofs.Room.{few-lines-all}
 use Rattle.worksheet.proofs.Operands.{reached-value}

@@ -7,8 +7,6 @@ pub mod FirstBytes
 pub mod Steps
 pub mod Answers
 pub mod Tests
-pub mod Filters
-pub mod Narrowing
 pub mod Choice
 pub mod Faults
 pub mod Exact

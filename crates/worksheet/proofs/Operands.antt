@@ -12,7 +12,7 @@ use borrow.Author.Tests.{ltb-true, lt-ltb, le-ltb, eqb-true, eq-eqb}
 use Rattle.domain.specs.Mask.{choose}
 use Rattle.domain.specs.Domain.{value?, constructorPart, numeric?, float?, converts}
 use Rattle.overloads.specs.Signature.{Signature, sameShape, sameNumber, reaches}
-use Rattle.worksheet.specs.Meaning.{NoRule}
+use Rattle.overloads.specs.Taking.{NoRule}
 use Rattle.worksheet.proofs.Tests.{both-left, both-right}
 
 pub reaches-nothing : (t a : ℕ) → 156 ≤ t → reaches t a ≡ false

@@ -11,10 +11,11 @@ use lib.ListN.{length, getD, length-append, length-reverse, length-reverseAux, g
 use lib.Seq.{take-at, drop-at, getD-at, set-at}
 use borrow.Author.Tests.{eqb-true, eq-eqb, lt-ltb, le-leb}
 use Rattle.overloads.specs.Signature.{Signature, reaches}
+use Rattle.overloads.specs.Taking.{Takes}
 use Rattle.worksheet.specs.Tree.{Tree, Trees, leaf, call, none, more, nodes, nodesAll, lastLeaf, Known, KnownAll}
 use Rattle.worksheet.specs.Line.{Line, leafLine, conversionLine, callLine, unlessSame, conversions, callLines}
 use Rattle.worksheet.specs.Machine.{ended, mostOperands, convertAt, apply, runBy, step, run}
-use Rattle.worksheet.specs.Meaning.{Takes, Gives, leafGives, callGives, GiveAll, noneGive, moreGive}
+use Rattle.worksheet.specs.Meaning.{Gives, leafGives, callGives, GiveAll, noneGive, moreGive}
 use Rattle.worksheet.proofs.Tests.{same-same}
 
 -- operands stand on the stack in reverse, the last on top

@@ -1,26 +1,18 @@
 -- 'Answers by number', 5, 6 and 1 in an expression: which call is at fault, what is wrong there, and the place.
 use mathlib.Core.Path.{_≡_}
-use mathlib.Core.Bool.{Bool, true}
+use mathlib.Core.Bool.{Bool}
 use mathlib.Core.List.{List}
-use mathlib.Core.Option.{some}
-use Prim.Native.Nat.{ℕ, _≤_, _<_}
-use lib.ListN.{length, getD, getElem?}
-use Rattle.overloads.specs.Signature.{Signature, reaches}
+use Prim.Native.Nat.{ℕ, _<_}
+use lib.ListN.{length, getD}
+use Rattle.overloads.specs.Signature.{Signature}
 use Rattle.overloads.specs.Choice.{longest}
+use Rattle.overloads.specs.Taking.{NoRule, LeftAfter}
 use Rattle.domain.specs.declared.refusal.Refusal.{Refusal}
 use Rattle.domain.specs.declared.refusal.Refusal.the-variants.{EmptySet, WrongCount, NoRuleLeft}
 use Rattle.worksheet.specs.Tree.{Tree, Trees, call, more}
 use Rattle.worksheet.specs.Places.{inside, behind, starts}
 use Rattle.worksheet.specs.Line.{Line}
-use Rattle.worksheet.specs.Meaning.{NoRule, Gives, GiveAll}
-
--- a rule is left after operand k: it has that argument, and takes this operand and those before it
-pub record LeftAfter (rules : List Signature) (ts : List ℕ) (k : ℕ) : Type 0 where
-  pub index : ℕ
-  pub rule : Signature
-  pub there : getElem? rules index ≡ some rule
-  pub long : k < length (rule .arguments)
-  pub reached : (j : ℕ) → j ≤ k → reaches (getD ts j 0) (getD (rule .arguments) j 0) ≡ true
+use Rattle.worksheet.specs.Meaning.{Gives, GiveAll}
 
 -- what is wrong with a call of these operands: their number (5); the first of them after which no rule is left (6); or, with a rule
 -- left after each, that none takes them all, as when the concrete-only step leaves no rule (1)

@@ -1,35 +1,12 @@
--- What it means that an expression is typed, or that it is stuck, apart from the steps that find it out.
-use mathlib.Core.Path.{_≡_}
-use mathlib.Core.Bool.{Bool, true}
+-- What it means that an expression is typed, or that it is stuck, apart from the steps that find it out. Which rule takes operands, and
+-- which of them a call means, `overloads` says in its `specs/Taking.antt`.
+use mathlib.Core.Bool.{Bool}
 use mathlib.Core.List.{List, [], _∷_, _++_}
-use mathlib.Core.Option.{some}
-use Prim.Native.Nat.{ℕ, _<_}
-use lib.ListN.{length, getD, getElem?}
-use Rattle.overloads.specs.Signature.{Signature, reaches, concrete}
-use Rattle.overloads.specs.Choice.{longest}
+use Prim.Native.Nat.{ℕ}
+use Rattle.overloads.specs.Signature.{Signature}
+use Rattle.overloads.specs.Taking.{NoRule, Best}
 use Rattle.worksheet.specs.Tree.{Leaf, Tree, Trees, leaf, call, none, more, count}
 use Rattle.worksheet.specs.Line.{Line, leafLine, conversionLine, callLine, callLines}
-
--- a rule takes operands: as many as it has arguments, each of them its argument's type or converted to it, and, with the
--- concrete-only switch on, no argument abstract
-pub record Takes (switch : Bool) (ts : List ℕ) (r : Signature) : Type 0 where
-  pub many : length ts ≡ length (r .arguments)
-  pub reached : (k : ℕ) → k < length ts → reaches (getD ts k 0) (getD (r .arguments) k 0) ≡ true
-  pub allowed : switch ≡ true → concrete r ≡ true
-
--- no rule of a listing takes the operands
-unfoldable pub NoRule : Bool → List Signature → List ℕ → Type 0
-NoRule switch rules ts = (i : ℕ) (r : Signature) → getElem? rules i ≡ some r → Takes switch ts r → ⊥
-
--- the rule at this index takes the operands, and no rule before it does
-pub record Best (switch : Bool) (rules : List Signature) (ts : List ℕ) (i : ℕ) (r : Signature) : Type 0 where
-  pub there : getElem? rules i ≡ some r
-  pub taken : Takes switch ts r
-  pub earliest : (j : ℕ) → j < i → (r′ : Signature) → getElem? rules j ≡ some r′ → Takes switch ts r′ → ⊥
-
--- every rule of a listing has as many arguments as the longest
-unfoldable pub OneLength : List Signature → Type 0
-OneLength rules = (i : ℕ) (r : Signature) → getElem? rules i ≡ some r → length (r .arguments) ≡ longest rules
 
 -- an expression's own leaves and calls, arguments before their call, and those of a worksheet
 pub data Node : Type 0 where
