@@ -1,4 +1,5 @@
-/* Azwukran for C: overload resolution of shader math functions, consensus of scalars, and worksheets of expressions.
+/* Azwukran for C: overload resolution of shader math functions, sets made by hand, consensus of scalars, and worksheets of
+ * expressions.
  *
  * Link target/staticlib/libbindings.a, which `rt staticlib bindings` writes (x86-64). The library uses no heap, keeps
  * nothing between calls and writes nothing but the buffer lent to azwukran_type, so any thread may call it at any time.
@@ -20,8 +21,9 @@
  *
  * Packing
  *
- * Every answer is one 64-bit number. But for azwukran_survivors and azwukran_run, its lowest byte is the refusal number, 0
- * where the question was accepted. Places of 32 bits are saturated: 2^32-1 stands for itself and all beyond.
+ * Every answer is one 64-bit number. But for azwukran_survivors, azwukran_run and the two steps of a List, its lowest byte
+ * is the refusal number, 0 where the question was accepted. Places of 32 bits are saturated: 2^32-1 stands for itself and
+ * all beyond.
  */
 #ifndef AZWUKRAN_H
 #define AZWUKRAN_H
@@ -49,10 +51,12 @@ enum azwukran_number {
     AZWUKRAN_COUNT = 5,
     /* No rule is left after this argument. Place: 1 + its index; in an expression, the offset of its first byte. */
     AZWUKRAN_ARGUMENT = 6,
-    /* An unknown function, type code, scalar, index or set bit. Place: 0 for the function, or for the base of a consensus;
-     * 1 + index for a type or a component; 1 for the index of a rule; in an expression, the offset of the byte. */
+    /* An unknown function, type code, scalar, index, set bit or conclusion. Place: 0 for the function, for the base of a
+     * consensus, or for a set; 1 + index for a type or a component; 1 for the index of a rule; in an expression, the offset
+     * of the byte. */
     AZWUKRAN_UNKNOWN = 7,
-    /* An expression is cut short, has an unknown tag, or has bytes left over. Place: the offset. */
+    /* An expression is cut short, has an unknown tag, or has bytes left over; or a List's last rule is cut short. Place: the
+     * offset. */
     AZWUKRAN_MALFORMED = 8,
     /* An expression has a 65th node or a node at depth 17. Place: that node's offset. */
     AZWUKRAN_TOO_LARGE = 9,
@@ -107,6 +111,48 @@ uint64_t azwukran_type(const uint8_t *bytes, size_t n, uint8_t concrete_only, ui
  *   bits 0..7: 0 ended, 1 stopped; 8..15 the number of operands left, 255 if stopped; 16..23 the type of the top one, 255 if
  *   there is none or if stopped; 32..63 the line it stopped at, counted from 0, and 0 if ended. */
 uint64_t azwukran_run(const uint8_t *sheet, size_t n);
+
+/* Sets made by hand
+ *
+ * A Regular set is handed in as its parts. arity is the number of arguments of its rules, 0 to 4. constructors and scalars
+ * are masks: bit i for constructor or scalar i. conclusion says what a rule of argument type T results in: 0 T itself, 1 its
+ * scalar, 2 and 3 the results of Frexp and Modf, 4 U32, 5 I32, 6 VEC2 of F32, 7 VEC4 of F32, 8 VEC4 of I32, 9 VEC4 of U32.
+ * Its listing has a rule for each constructor and, within one, for each scalar, both ascending. Every question refuses an
+ * unknown bit or conclusion (7), then an arity above 4 (3), both at place 0.
+ *
+ * A List is handed in as its rules, six bytes each (argument types 0 to 3, number of arguments, result; an argument that the
+ * rule has not may be any byte), the most preferred first, and the mask of its members: bit i for rule i. Every question
+ * refuses a last rule cut short (8), then an unknown type, or a member that is no rule (7), then more than 63 rules, or a
+ * rule of more than 4 arguments (3). Arguments are 0 to 155, results 0 to 180; of more than 63 rules the first 63 are
+ * tested for this. */
+
+/* The set that an argument of this type (0 to 180; another is refused by 7) at this index leaves. The conclusion stays.
+ *   bits 0..7 number; 8..15 arity; 32..47 constructors; 48..63 scalars. On a refusal all but the number is 0. An index at or
+ *   above the arity leaves the empty set, all 0. */
+uint64_t azwukran_regular_arg(uint8_t arity, uint16_t constructors, uint16_t scalars, uint8_t conclusion, size_t index,
+                              uint8_t type);
+
+/* The set without ABSTRACT_INT and ABSTRACT_FLOAT, packed in the same way. */
+uint64_t azwukran_regular_concrete_only(uint8_t arity, uint16_t constructors, uint16_t scalars, uint8_t conclusion);
+
+/* The rule that the set prefers, packed as azwukran_rule packs it. Refusals, besides the set's own: 1 if it has no rule, 2 if
+ * it has several constructors, 13 if the rule has no conclusion. */
+uint64_t azwukran_regular_preferred(uint8_t arity, uint16_t constructors, uint16_t scalars, uint8_t conclusion);
+
+/* The rule at an index of the set's listing, packed as azwukran_rule packs it. Refusals, besides the set's own: 13 if some
+ * rule has no conclusion, then 7 at place 1 for an unknown index. */
+uint64_t azwukran_regular_rule(uint8_t arity, uint16_t constructors, uint16_t scalars, uint8_t conclusion, uint8_t index);
+
+/* The members that an argument of this type (0 to 180; another is refused by 7) at this index leaves, as a mask. A refusal
+ * has bit 63 set, which no mask has, and its number in bits 0..7; its place is 0, and for 8 the offset of the rule. */
+uint64_t azwukran_list_arg(const uint8_t *rules, size_t n, uint64_t members, size_t index, uint8_t type);
+
+/* The members without an argument of ABSTRACT_INT or ABSTRACT_FLOAT, in the same form. */
+uint64_t azwukran_list_concrete_only(const uint8_t *rules, size_t n, uint64_t members);
+
+/* The first member, packed as azwukran_call packs it, its index counted in the rules handed in. Refusals, besides the List's
+ * own: 1 if it has no member. */
+uint64_t azwukran_list_preferred(const uint8_t *rules, size_t n, uint64_t members);
 
 #ifdef __cplusplus
 }

@@ -5,13 +5,14 @@ use std::hint::black_box;
 use std::time::Instant;
 
 use naga::ir::Scalar;
+use naga::proc::overloads_oracle::Hand;
 
-use crate::crate_side::{Asker, Crate, Expression};
+use crate::crate_side::{Asker, Crate, Expression, RuleCodes};
 use crate::expressions::{self, ENOUGH_ROOM};
 use crate::generate::{self, Accepted, Generator};
 use crate::machine::LINE;
-use crate::numbering::{self, FUNCTIONS, NONE, SCALAR_COUNT};
-use crate::ours;
+use crate::numbering::{self, FUNCTIONS, NONE, OPAQUE, SCALAR_COUNT};
+use crate::ours::{self, Regular};
 use crate::random::Random;
 
 const INPUTS: usize = 20_000;
@@ -26,6 +27,8 @@ pub fn bench(seed: u64) {
         "", "crate best", "median", "ours best", "median", "ratio", "median"
     );
     bench_calls(&rules, seed);
+    bench_regular_steps(&rules, seed);
+    bench_list_steps(&rules, seed);
     rules.with_consensus(|asker| bench_consensus(asker, seed));
     bench_typing(&rules, seed);
 }
@@ -61,6 +64,65 @@ fn time_calls<'a>(rules: &Crate, name: &str, draw: &mut dyn FnMut() -> &'a Accep
         },
         |call| {
             black_box(ours::call(call.function, &call.operands, false));
+        },
+    );
+}
+
+/// One argument step on a Regular set that stands ready on both sides.
+fn bench_regular_steps(rules: &Crate, seed: u64) {
+    let mut random = Random::new(seed);
+    let inputs: Vec<(Regular, Hand, usize, u8)> = (0..INPUTS)
+        .map(|_| {
+            let set = Regular {
+                arity: 1 + random.below(4) as u8,
+                constructors: 1 + random.below((1 << 13) - 1) as u16,
+                scalars: 1 + random.below((1 << 12) - 1) as u16,
+                conclusion: 0,
+            };
+            let hand = Hand::regular(set.arity.into(), set.constructors, set.scalars, set.conclusion);
+            (set, hand, random.below(set.arity.into()), random.below(usize::from(OPAQUE)) as u8)
+        })
+        .collect();
+    time(
+        "a step on a Regular set",
+        &inputs,
+        |(_, hand, index, code)| {
+            black_box(rules.hand_step(hand, *index, *code));
+        },
+        |(set, _, index, code)| {
+            let _ = black_box(set.arg(*index, *code));
+        },
+    );
+}
+
+/// One argument step on the full List of a function, which the crate has ready and ours reads from its bytes.
+fn bench_list_steps(rules: &Crate, seed: u64) {
+    let mut random = Random::new(seed);
+    let lists: Vec<(u8, Vec<u8>, Hand)> = (0..FUNCTIONS.len() as u8)
+        .filter(|&function| numbering::is_list(function))
+        .map(|function| {
+            let listed = rules.listing(function);
+            let bytes = listed.iter().flat_map(RuleCodes::bytes).collect();
+            (function, bytes, Hand::list(listed.iter().map(RuleCodes::rule).collect()))
+        })
+        .collect();
+    let inputs: Vec<(&[u8], u64, &Hand, usize, u8)> = (0..INPUTS)
+        .map(|_| {
+            let (function, bytes, hand) = random.pick(&lists);
+            let listed = rules.listing(*function);
+            let index = random.below(rules.arity(*function));
+            let code = random.pick(listed).arguments[index];
+            (bytes.as_slice(), (1u64 << listed.len()) - 1, hand, index, code)
+        })
+        .collect();
+    time(
+        "a step on a List, ours from bytes",
+        &inputs,
+        |(_, _, hand, index, code)| {
+            black_box(rules.hand_step(hand, *index, *code));
+        },
+        |(bytes, members, _, index, code)| {
+            let _ = black_box(ours::list_arg(bytes, *members, *index, *code));
         },
     );
 }

@@ -1,57 +1,57 @@
-//! Puts the same questions to the crate and to the library and counts the answers that differ: rules, calls, consensus,
-//! expressions and worksheets. Where the questions are few enough they are all put; the rest are drawn from the seed.
+//! Puts the same questions to the crate and to the library and counts the answers that differ: rules, calls, sets made by
+//! hand, consensus, expressions and worksheets. Where the questions are few enough they are all put; the rest are drawn from the seed.
 
-use std::fmt::Debug;
 use std::panic::{self, AssertUnwindSafe};
-use std::time::{Duration, Instant};
 
-use naga::proc::OverloadSet;
-
-use crate::crate_side::{Asker, Crate, Outcome};
+use crate::calls::{any_code, compare_calls, compare_unknown, next_tuple};
+use crate::crate_side::{Asker, Crate};
 use crate::expressions::{self, ENOUGH_ROOM};
-use crate::generate::{self, Accepted, Generator};
+use crate::generate::{self, Generator};
 use crate::machine;
-use crate::numbering::{FUNCTIONS, LAST_CODE, NONE, OPAQUE, SCALAR_COUNT};
+use crate::numbering::{LAST_CODE, NONE, OPAQUE, SCALAR_COUNT};
 use crate::ours::{self, Run};
 use crate::random::Random;
 use crate::readings::{self, Reading};
-
-/// How many differences of a kind are printed.
-const SHOWN: u64 = 5;
-
-/// How often work that takes long says where it is.
-const PATIENCE: Duration = Duration::from_secs(5);
-
-/// The type codes of operands and components, all of them.
-const CODES: std::ops::RangeInclusive<u8> = 0..=LAST_CODE;
+use crate::sets::compare_sets;
+use crate::tally::{beginning, differing, grouped, Tally};
 
 /// How much is asked.
-struct Effort {
+pub struct Effort {
     /// Operand tuples and component lists up to this length are all asked.
-    exhaustive: usize,
+    pub exhaustive: usize,
     /// For longer tuples of the right length: so many endings of each beginning that the crate refuses.
-    endings: usize,
+    pub endings: usize,
     /// For functions with longer tuples: so many random ones of the right and of the wrong length each.
-    tuples: usize,
+    pub tuples: usize,
+    /// Random sets made by hand, of each kind.
+    pub sets: usize,
     /// Random component lists.
-    consensus: usize,
+    pub consensus: usize,
     /// Random expressions.
-    expressions: usize,
+    pub expressions: usize,
     /// Random worksheets.
-    worksheets: usize,
+    pub worksheets: usize,
 }
 
 const FULL: Effort = Effort {
     exhaustive: 3,
     endings: 400,
     tuples: 1_000_000,
+    sets: 2_000_000,
     consensus: 4_000_000,
     expressions: 1_000_000,
     worksheets: 2_000_000,
 };
 
-const QUICK: Effort =
-    Effort { exhaustive: 2, endings: 10, tuples: 20_000, consensus: 200_000, expressions: 40_000, worksheets: 80_000 };
+const QUICK: Effort = Effort {
+    exhaustive: 2,
+    endings: 10,
+    tuples: 20_000,
+    sets: 10_000,
+    consensus: 200_000,
+    expressions: 40_000,
+    worksheets: 80_000,
+};
 
 /// Compares everything and prints what was compared. Answers whether nothing differs.
 pub fn compare(seed: u64, quick: bool) -> bool {
@@ -64,6 +64,7 @@ pub fn compare(seed: u64, quick: bool) -> bool {
         compare_rules(&rules),
         compare_calls(&rules, &accepted, &effort, seed),
         compare_unknown(&rules, &accepted),
+        compare_sets(&rules, effort.sets, seed),
         rules.with_consensus(|asker| compare_consensus(asker, &effort, seed)),
         compare_expressions(&rules, &effort, seed),
         compare_worksheets(&rules, &effort, seed),
@@ -71,70 +72,6 @@ pub fn compare(seed: u64, quick: bool) -> bool {
     let differ: u64 = differ.iter().sum();
     println!("{} in all", differing(differ));
     differ == 0
-}
-
-/// What was compared so far of one kind of question.
-struct Tally {
-    name: &'static str,
-    compared: u64,
-    differ: u64,
-    started: Instant,
-    told: Instant,
-}
-
-impl Tally {
-    fn new(name: &'static str) -> Tally {
-        let now = Instant::now();
-        Tally { name, compared: 0, differ: 0, started: now, told: now }
-    }
-
-    /// Counts one question; it is put into words only where the answer is not the expected one.
-    fn check<T: PartialEq + Debug>(&mut self, expected: T, answered: T, question: impl FnOnce() -> String) {
-        self.compared += 1;
-        if expected != answered {
-            self.differ += 1;
-            if self.differ <= SHOWN {
-                println!("{}: {}\n  expected {expected:?}\n  answered {answered:?}", self.name, question());
-            }
-        }
-        if self.compared.is_multiple_of(1 << 16) && self.told.elapsed() > PATIENCE {
-            self.told = Instant::now();
-            eprintln!("{}: {} compared, {}", self.name, grouped(self.compared), differing(self.differ));
-        }
-    }
-
-    /// Prints the sum, with a remark on what was asked, and answers how many differ.
-    fn sum_up(&self, remark: &str) -> u64 {
-        let seconds = self.started.elapsed().as_secs_f64();
-        println!(
-            "{}: {} compared, {} ({seconds:.1} s): {remark}",
-            self.name,
-            grouped(self.compared),
-            differing(self.differ)
-        );
-        self.differ
-    }
-}
-
-fn differing(count: u64) -> String {
-    if count == 1 {
-        "1 differs".to_string()
-    } else {
-        format!("{} differ", grouped(count))
-    }
-}
-
-/// A number with a comma before every three digits.
-fn grouped(number: u64) -> String {
-    let digits = number.to_string();
-    let mut text = String::new();
-    for (place, digit) in digits.char_indices() {
-        if place > 0 && (digits.len() - place).is_multiple_of(3) {
-            text.push(',');
-        }
-        text.push(digit);
-    }
-    text
 }
 
 /// Document 01's readings, on both sides.
@@ -159,195 +96,6 @@ fn compare_rules(rules: &Crate) -> u64 {
     }
     let known: usize = (0..=u8::MAX).map(|function| rules.listing(function).len()).sum();
     tally.sum_up(&format!("every function and index from 0 to 255, {} rules", grouped(known as u64)))
-}
-
-/// The comparison of calls of known functions with known types.
-struct Calls<'a> {
-    rules: &'a Crate,
-    effort: &'a Effort,
-    random: Random,
-    tally: Tally,
-}
-
-fn compare_calls(rules: &Crate, accepted: &[Accepted], effort: &Effort, seed: u64) -> u64 {
-    let mut calls = Calls { rules, effort, random: Random::new(seed), tally: Tally::new("calls") };
-    for function in 0..FUNCTIONS.len() as u8 {
-        calls.compare_function(function);
-        if rules.arity(function) + 1 > effort.exhaustive {
-            let own: Vec<&Accepted> = accepted.iter().filter(|call| call.function == function).collect();
-            calls.compare_sample(function, &own);
-        }
-    }
-    calls.tally.sum_up(&format!(
-        "{} functions, each tuple of codes 0 to {LAST_CODE} with both switches: all to length {}, \
-         {} accepted ones and a sample beyond",
-        FUNCTIONS.len(),
-        effort.exhaustive,
-        grouped(accepted.len() as u64),
-    ))
-}
-
-impl Calls<'_> {
-    /// Tuples of every length from 0 to one more than the function takes.
-    fn compare_function(&mut self, function: u8) {
-        let arity = self.rules.arity(function);
-        for length in 0..=arity + 1 {
-            if length == arity {
-                self.walk(function, &FUNCTIONS[usize::from(function)].overloads(), &mut Vec::new());
-            } else {
-                self.endings(function, &[], length, self.effort.tuples, Outcome::refused(5, 0));
-            }
-        }
-    }
-
-    /// Tuples of the right length that begin with `operands`, which leave the set `set`. Each beginning is put to the
-    /// crate once: what follows the argument that empties the set cannot change its answer.
-    fn walk<S: OverloadSet>(&mut self, function: u8, set: &S, operands: &mut Vec<u8>) {
-        let arity = self.rules.arity(function);
-        let argument = operands.len();
-        for code in CODES {
-            let left = self.rules.step(set, argument, code);
-            operands.push(code);
-            if left.is_empty() {
-                self.endings(function, operands, arity, self.effort.endings, Outcome::refused(6, 1 + argument));
-            } else if operands.len() < arity {
-                self.walk(function, &left, operands);
-            } else {
-                for concrete_only in [false, true] {
-                    let expected = self.rules.concluded(function, &left, concrete_only);
-                    self.check(function, operands, concrete_only, expected);
-                }
-            }
-            operands.pop();
-        }
-    }
-
-    /// Tuples of this length that begin with `beginning`, all of which the crate answers alike: all of them, or a
-    /// sample of the longer ones.
-    fn endings(&mut self, function: u8, beginning: &[u8], length: usize, sample: usize, expected: Outcome) {
-        let mut operands = beginning.to_vec();
-        operands.resize(length, 0);
-        if length <= self.effort.exhaustive || length - beginning.len() <= 1 {
-            loop {
-                self.check_both(function, &operands, expected);
-                if !next_tuple(&mut operands[beginning.len()..]) {
-                    break;
-                }
-            }
-        } else {
-            for _ in 0..sample {
-                for operand in &mut operands[beginning.len()..] {
-                    *operand = any_code(&mut self.random);
-                }
-                self.check_both(function, &operands, expected);
-            }
-        }
-    }
-
-    /// Random tuples, each put to the crate whole: any, and accepted ones with an operand changed, lost or added.
-    fn compare_sample(&mut self, function: u8, accepted: &[&Accepted]) {
-        for _ in 0..self.effort.tuples {
-            let mut operands = self.random.pick(accepted).operands.clone();
-            let place = self.random.below(operands.len());
-            match self.random.below(8) {
-                0 => operands.fill_with(|| any_code(&mut self.random)),
-                1 => drop(operands.remove(place)),
-                2 => operands.insert(place, any_code(&mut self.random)),
-                3 => {}
-                _ => operands[place] = any_code(&mut self.random),
-            }
-            let concrete_only = self.random.once_in(2);
-            let expected = self.rules.call(function, &operands, concrete_only);
-            self.check(function, &operands, concrete_only, expected);
-        }
-    }
-
-    fn check_both(&mut self, function: u8, operands: &[u8], expected: Outcome) {
-        self.check(function, operands, false, expected);
-        self.check(function, operands, true, expected);
-    }
-
-    fn check(&mut self, function: u8, operands: &[u8], concrete_only: bool, expected: Outcome) {
-        check_call(&mut self.tally, function, operands, concrete_only, expected);
-    }
-}
-
-fn check_call(tally: &mut Tally, function: u8, operands: &[u8], concrete_only: bool, expected: Outcome) {
-    let answered = Outcome {
-        call: ours::call(function, operands, concrete_only),
-        survivors: ours::survivors(function, operands, concrete_only),
-    };
-    tally.check(expected, answered, || {
-        let name = FUNCTIONS.get(usize::from(function)).map_or("unknown".to_string(), |known| format!("{known:?}"));
-        format!(
-            "function {function} ({name}), {} operands {:?}, concrete-only {concrete_only}",
-            operands.len(),
-            beginning(operands)
-        )
-    });
-}
-
-/// As much of a long input as is worth printing.
-fn beginning(bytes: &[u8]) -> &[u8] {
-    &bytes[..bytes.len().min(600)]
-}
-
-/// The next tuple of codes in ascending order; false after the last.
-fn next_tuple(operands: &mut [u8]) -> bool {
-    for operand in operands.iter_mut().rev() {
-        if *operand < LAST_CODE {
-            *operand += 1;
-            return true;
-        }
-        *operand = 0;
-    }
-    false
-}
-
-fn any_code(random: &mut Random) -> u8 {
-    random.below(usize::from(LAST_CODE) + 1) as u8
-}
-
-/// Calls of unknown functions, with unknown types, and of very many operands: what is tested before the count.
-fn compare_unknown(rules: &Crate, accepted: &[Accepted]) -> u64 {
-    let mut tally = Tally::new("calls with unknown numbers");
-    let mut check = |function: u8, operands: &[u8]| {
-        for concrete_only in [false, true] {
-            let expected = rules.call(function, operands, concrete_only);
-            check_call(&mut tally, function, operands, concrete_only, expected);
-        }
-    };
-    for function in FUNCTIONS.len() as u8..=u8::MAX {
-        for operands in [&[][..], &[0], &[8, 8], &[LAST_CODE + 1], &[0, 0, u8::MAX]] {
-            check(function, operands);
-        }
-    }
-    for call in accepted {
-        for place in 0..call.operands.len() {
-            for unknown in LAST_CODE + 1..=u8::MAX {
-                let mut operands = call.operands.clone();
-                operands[place] = unknown;
-                check(call.function, &operands);
-                operands.push(unknown);
-                check(call.function, &operands);
-            }
-        }
-    }
-    for length in [6, 64, 255, 256, 257, 1000, 65_536, 70_001] {
-        let mut operands = vec![8; length];
-        for function in [0, 4, 78] {
-            check(function, &operands);
-        }
-        operands[length - 1] = LAST_CODE + 1;
-        for function in [0, 4, 78] {
-            check(function, &operands);
-        }
-    }
-    tally.sum_up(&format!(
-        "functions {} to 255, types {} to 255 at each place of each accepted call, up to 70,001 operands",
-        FUNCTIONS.len(),
-        LAST_CODE + 1
-    ))
 }
 
 fn compare_consensus(asker: &Asker, effort: &Effort, seed: u64) -> u64 {

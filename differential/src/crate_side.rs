@@ -3,6 +3,7 @@
 //! asks (which argument empties the set, and what is refused before the crate is reached) and the numbering of rules.
 
 use naga::ir::{MathFunction, Module, Scalar, Type, TypeInner};
+use naga::proc::overloads_oracle::Hand;
 use naga::proc::{Conclusion, OverloadSet, Rule, TypeResolution};
 use naga::{Handle, Span};
 
@@ -14,6 +15,33 @@ use crate::ours;
 pub struct RuleCodes {
     pub arguments: Vec<u8>,
     pub result: u8,
+}
+
+impl RuleCodes {
+    /// The rule in the form that the library answers it.
+    pub fn answer(&self) -> ours::Rule {
+        let mut arguments = [NONE; 4];
+        arguments[..self.arguments.len()].copy_from_slice(&self.arguments);
+        ours::Rule { number: 0, arguments, count: self.arguments.len() as u8, result: self.result, place: 0 }
+    }
+
+    /// The rule in six bytes: four arguments, their count, the result.
+    pub fn bytes(&self) -> [u8; 6] {
+        let ours::Rule { arguments: [a0, a1, a2, a3], count, result, .. } = self.answer();
+        [a0, a1, a2, a3, count, result]
+    }
+
+    /// The rule as the crate has it.
+    pub fn rule(&self) -> Rule {
+        Rule {
+            arguments: self.arguments.iter().map(|&code| TypeResolution::Value(numbering::inner(code))).collect(),
+            conclusion: if self.result <= OPAQUE {
+                Conclusion::Value(numbering::inner(self.result))
+            } else {
+                Conclusion::Predeclared(numbering::predeclared(self.result))
+            },
+        }
+    }
 }
 
 /// Why a call has no rule, with the number of the argument at fault.
@@ -183,14 +211,24 @@ impl Crate {
     pub fn rule(&self, function: u8, index: u8) -> ours::Rule {
         let known = usize::from(function) < FUNCTIONS.len();
         match self.listing(function).get(index as usize) {
-            Some(rule) => {
-                let mut arguments = [NONE; 4];
-                arguments[..rule.arguments.len()].copy_from_slice(&rule.arguments);
-                let count = rule.arguments.len() as u8;
-                ours::Rule { number: 0, arguments, count, result: rule.result, place: 0 }
-            }
-            None => ours::Rule { number: 7, arguments: [NONE; 4], count: NONE, result: NONE, place: u8::from(known) },
+            Some(rule) => rule.answer(),
+            None => ours::Rule::refused(7, u8::from(known)),
         }
+    }
+
+    /// What a set made by hand is left with after an argument.
+    pub fn hand_step(&self, set: &Hand, argument: usize, code: u8) -> Hand {
+        set.arg(argument, &self.inners[code as usize], &self.module.types)
+    }
+
+    /// What a set made by hand is left with after the concrete-only step.
+    pub fn hand_concrete(&self, set: Hand) -> Hand {
+        set.concrete_only(&self.module.types)
+    }
+
+    /// The listing of a set made by hand.
+    pub fn hand_listing(&self, set: &Hand) -> Vec<RuleCodes> {
+        set.overload_list(&self.module.to_ctx()).iter().map(rule_codes).collect()
     }
 
     /// Lends the crate's consensus over type codes. The front end's own context is built once, so `body` asks as often

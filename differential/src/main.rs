@@ -4,6 +4,7 @@
 //!     differential bench [--seed N]
 
 mod bench;
+mod calls;
 mod compare;
 mod crate_side;
 mod expressions;
@@ -13,6 +14,8 @@ mod numbering;
 mod ours;
 mod random;
 mod readings;
+mod sets;
+mod tally;
 
 use std::env;
 use std::process::ExitCode;

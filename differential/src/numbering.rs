@@ -163,9 +163,10 @@ pub fn inner(code: u8) -> TypeInner {
     }
 }
 
-/// The code of a scalar, vector or matrix.
+/// The code of a scalar, vector, matrix or texture.
 pub fn code(inner: &TypeInner) -> u8 {
     let (constructor, scalar) = match *inner {
+        TypeInner::Image { .. } => return OPAQUE,
         TypeInner::Scalar(scalar) => (0, scalar),
         TypeInner::Vector { size, scalar } => (1 + size_number(size), scalar),
         TypeInner::Matrix { columns, rows, scalar } => (4 + 3 * size_number(columns) + size_number(rows), scalar),

@@ -11,6 +11,20 @@ mod linked {
         pub fn azwukran_consensus(base: u8, components: *const u8, n: usize) -> u64;
         pub fn azwukran_type(bytes: *const u8, n: usize, concrete_only: u8, out: *mut u8, room: usize) -> u64;
         pub fn azwukran_run(sheet: *const u8, n: usize) -> u64;
+        pub fn azwukran_regular_arg(
+            arity: u8,
+            constructors: u16,
+            scalars: u16,
+            conclusion: u8,
+            index: usize,
+            code: u8,
+        ) -> u64;
+        pub fn azwukran_regular_concrete_only(arity: u8, constructors: u16, scalars: u16, conclusion: u8) -> u64;
+        pub fn azwukran_regular_preferred(arity: u8, constructors: u16, scalars: u16, conclusion: u8) -> u64;
+        pub fn azwukran_regular_rule(arity: u8, constructors: u16, scalars: u16, conclusion: u8, index: u8) -> u64;
+        pub fn azwukran_list_arg(rules: *const u8, n: usize, members: u64, index: usize, code: u8) -> u64;
+        pub fn azwukran_list_concrete_only(rules: *const u8, n: usize, members: u64) -> u64;
+        pub fn azwukran_list_preferred(rules: *const u8, n: usize, members: u64) -> u64;
     }
 }
 
@@ -39,6 +53,12 @@ pub struct Rule {
     pub count: u8,
     pub result: u8,
     pub place: u8,
+}
+
+impl Rule {
+    pub fn refused(number: u8, place: u8) -> Rule {
+        Rule { number, arguments: [NONE; 4], count: NONE, result: NONE, place }
+    }
 }
 
 /// A consensus: refusal number, scalar, place.
@@ -86,7 +106,10 @@ pub fn saturated(place: usize) -> u32 {
 
 pub fn call(function: u8, operands: &[u8], concrete_only: bool) -> Call {
     // Safety: pointer and length are one slice's, which the function only reads.
-    let answer = unsafe { linked::azwukran_call(function, operands.as_ptr(), operands.len(), u8::from(concrete_only)) };
+    call_of(unsafe { linked::azwukran_call(function, operands.as_ptr(), operands.len(), u8::from(concrete_only)) })
+}
+
+fn call_of(answer: u64) -> Call {
     let [number, index, result, count, ..] = answer.to_le_bytes();
     Call { number, index, result, count, place: high(answer) }
 }
@@ -99,7 +122,10 @@ pub fn survivors(function: u8, operands: &[u8], concrete_only: bool) -> u64 {
 
 pub fn rule(function: u8, index: u8) -> Rule {
     // Safety: two numbers go in, a number comes out.
-    let answer = unsafe { linked::azwukran_rule(function, index) };
+    rule_of(unsafe { linked::azwukran_rule(function, index) })
+}
+
+fn rule_of(answer: u64) -> Rule {
     let [number, a0, a1, a2, a3, count, result, place] = answer.to_le_bytes();
     Rule { number, arguments: [a0, a1, a2, a3], count, result, place }
 }
@@ -127,6 +153,78 @@ pub fn run(sheet: &[u8]) -> Run {
     let answer = unsafe { linked::azwukran_run(sheet.as_ptr(), sheet.len()) };
     let [state, operands, top, ..] = answer.to_le_bytes();
     Run { state, operands, top, line: high(answer) }
+}
+
+/// A Regular set made by hand, by its parts.
+#[derive(Clone, Copy, Debug, PartialEq, Eq)]
+pub struct Regular {
+    pub arity: u8,
+    pub constructors: u16,
+    pub scalars: u16,
+    pub conclusion: u8,
+}
+
+impl Regular {
+    /// The set that an argument leaves, with the same conclusion, or a refusal's number.
+    pub fn arg(self, index: usize, code: u8) -> Result<Regular, u8> {
+        // Safety: numbers go in, a number comes out; so in all four.
+        self.left(unsafe {
+            linked::azwukran_regular_arg(self.arity, self.constructors, self.scalars, self.conclusion, index, code)
+        })
+    }
+
+    pub fn concrete_only(self) -> Result<Regular, u8> {
+        self.left(unsafe {
+            linked::azwukran_regular_concrete_only(self.arity, self.constructors, self.scalars, self.conclusion)
+        })
+    }
+
+    pub fn preferred(self) -> Rule {
+        rule_of(unsafe {
+            linked::azwukran_regular_preferred(self.arity, self.constructors, self.scalars, self.conclusion)
+        })
+    }
+
+    /// One rule of the set's listing.
+    pub fn rule(self, index: u8) -> Rule {
+        rule_of(unsafe {
+            linked::azwukran_regular_rule(self.arity, self.constructors, self.scalars, self.conclusion, index)
+        })
+    }
+
+    fn left(self, answer: u64) -> Result<Regular, u8> {
+        let [number, arity, _, _, c0, c1, s0, s1] = answer.to_le_bytes();
+        let constructors = u16::from_le_bytes([c0, c1]);
+        let scalars = u16::from_le_bytes([s0, s1]);
+        if number == 0 {
+            Ok(Regular { arity, constructors, scalars, conclusion: self.conclusion })
+        } else {
+            assert_eq!((arity, constructors, scalars), (0, 0, 0), "a refusal answers the empty set");
+            Err(number)
+        }
+    }
+}
+
+/// A List's members that an argument leaves, or a refusal's number. The rules are six bytes each.
+pub fn list_arg(rules: &[u8], members: u64, index: usize, code: u8) -> Result<u64, u8> {
+    // Safety: as for `call`; so in all three.
+    members_of(unsafe { linked::azwukran_list_arg(rules.as_ptr(), rules.len(), members, index, code) })
+}
+
+pub fn list_concrete_only(rules: &[u8], members: u64) -> Result<u64, u8> {
+    members_of(unsafe { linked::azwukran_list_concrete_only(rules.as_ptr(), rules.len(), members) })
+}
+
+pub fn list_preferred(rules: &[u8], members: u64) -> Call {
+    call_of(unsafe { linked::azwukran_list_preferred(rules.as_ptr(), rules.len(), members) })
+}
+
+fn members_of(answer: u64) -> Result<u64, u8> {
+    if answer >> 63 == 0 {
+        Ok(answer)
+    } else {
+        Err(u8::try_from(answer & !(1 << 63)).expect("a refusal's number is a byte"))
+    }
 }
 
 fn high(answer: u64) -> u32 {

@@ -1,4 +1,5 @@
 -- What the proofs of several functions use.
 mod Answers
+mod ByteRules
+mod ListedRules
 mod Operands
-mod RulePlaces

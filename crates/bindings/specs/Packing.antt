@@ -1,12 +1,14 @@
 -- An answer as one number of 64 bits, from the number, the place and the values that its paper gives. The lowest byte is the number, 0
--- where the question is accepted. A value that a refusal leaves out is 255, and a place beyond 32 bits is the largest of 32 bits.
+-- where the question is accepted. A value that a refusal leaves out is 255, and a place beyond its bits is the largest that they hold.
 use mathlib.Core.Bool.{Bool, not}
-use mathlib.Core.List.{List, [], _∷_}
 use Prim.Native.Nat.{ℕ, _+_, _*_}
 use lib.Dec.{eqb, ltb}
 use lib.ListN.{getD}
 use Rattle.domain.specs.Mask.{choose}
 use Rattle.domain.specs.Paper.{Paper}
+use Rattle.domain.specs.Refusal.{numberOf}
+use Rattle.overloads.specs.List.{onVerdict}
+use Rattle.overloads.specs.declared.list.ListAnswer.{ListAnswer}
 use Rattle.domain.specs.declared.conversion.Base.{Base}
 use Rattle.domain.specs.declared.conversion.Base.the-variants as base
 use Rattle.worksheet.specs.declared.machine.Run.{Run}
@@ -21,6 +23,10 @@ fourBytes a b c d = a + b * 256 + c * 65536 + d * 16777216
 -- two halves of 32 bits, the lower first
 unfoldable pub twoHalves : ℕ → ℕ → ℕ
 twoHalves low high = low + high * 4294967296
+
+-- two words of 16 bits, the lower first
+unfoldable pub twoWords : ℕ → ℕ → ℕ
+twoWords low high = low + high * 65536
 
 -- a number, or the largest that is allowed where it is above that
 unfoldable pub atMost : ℕ → ℕ → ℕ
@@ -44,19 +50,25 @@ callPacked p = packed (p .number) (value 0 p) (value 6 p) (value 5 p) (p .place)
 abbrev pub survivorsPacked : Paper → ℕ
 survivorsPacked p = value 0 p
 
--- a rule: the number, the four arguments, their count, the result, and the place, which is 0 or 1
+-- a rule: the number, the four arguments, their count, the result, and the place in 8 bits
 abbrev pub rulePacked : Paper → ℕ
 rulePacked p =
     twoHalves (fourBytes (p .number) (value 0 p) (value 1 p) (value 2 p))
-    (fourBytes (value 3 p) (value 4 p) (value 5 p) (p .place))
+    (fourBytes (value 3 p) (value 4 p) (value 5 p) (atMost 255 (p .place)))
 
--- the values of no rule
-abbrev pub noValues : List ℕ
-noValues = 255 ∷ 255 ∷ 255 ∷ 255 ∷ 255 ∷ 255 ∷ []
+-- a Regular set: the number, the arity, and the masks of constructors and scalars; the conclusion stays the caller's
+abbrev pub regularPacked : Paper → ℕ
+regularPacked p = twoHalves (fourBytes (p .number) (value 0 p) 0 0) (twoWords (value 1 p) (value 2 p))
 
 -- a consensus or the type of an expression: the one value, and the place
 abbrev pub valuePacked : Paper → ℕ
 valuePacked p = packed (p .number) (value 0 p) 0 0 (p .place)
+
+-- ---- Lists
+
+-- the mask of the members, which has at most 63 bits; a refusal has the highest bit, and the number
+abbrev pub membersPacked : ListAnswer → ℕ
+membersPacked l = onVerdict (l .answer) (l .list .members) (λ why. 9223372036854775808 + numberOf why)
 
 -- ---- runs
 

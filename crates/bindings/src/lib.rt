@@ -3,7 +3,9 @@
 // Every exported function ends on every input and tests it itself. It asks the function of the crates `domain`, `overloads` and
 // `worksheet` that its promise names, and packs the answer's number, place and values. Nothing is kept between calls.
 
+mod list_sets;
 mod packing;
+mod regular_sets;
 
 ghost use mathlib.Core.Path.{_≡_};
 ghost use Rattle.domain.specs.Paper.{scalarPaper};
@@ -18,19 +20,24 @@ ghost use Rattle.worksheet.specs.Run.{ranOf};
 ghost use Rattle.bindings.specs.Packing.{callPacked, survivorsPacked, rulePacked, valuePacked, runPacked, on, baseOf};
 use crate::packing::NONE;
 use crate::packing::pack;
-use crate::packing::pack_no_rule;
 use crate::packing::pack_refusal;
-use crate::packing::pack_rule;
+use crate::packing::pack_rule_answer;
 use domain::Base;
 use domain::Scalar;
 use domain::ScalarAnswer;
 use domain::automatic_conversion_consensus;
+pub use list_sets::azwukran_list_arg;
+pub use list_sets::azwukran_list_concrete_only;
+pub use list_sets::azwukran_list_preferred;
 use overloads::CallAnswer;
-use overloads::RuleAnswer;
 use overloads::Survivors;
 use overloads::call_of;
 use overloads::rule_at;
 use overloads::survivors_of;
+pub use regular_sets::azwukran_regular_arg;
+pub use regular_sets::azwukran_regular_concrete_only;
+pub use regular_sets::azwukran_regular_preferred;
+pub use regular_sets::azwukran_regular_rule;
 use worksheet::Run;
 use worksheet::TypeAnswer;
 use worksheet::run_worksheet;
@@ -67,10 +74,7 @@ pub extern "C" fn azwukran_survivors(function: u8, operands: &[u8], switch: u8) 
 pub extern "C" fn azwukran_rule(function: u8, index: u8) -> u64
     ensures { λ r. ⌜ r ≡ rulePacked (rulePaper (ruleAt function index)) ⌝ }
 {
-    match rule_at(function, index) {
-        RuleAnswer::Refused(why) => pack_no_rule(why),
-        RuleAnswer::Rule(rule) => pack_rule(0, rule, 0),
-    }
+    pack_rule_answer(rule_at(function, index))
 }
 
 // The scalar on which components agree, from a base or none: number, scalar, place.
