@@ -1,6 +1,5 @@
 -- `pack_chosen` meets its contract: the answer is packed, case by case, as its paper says.
 -- Assumes nothing.
-use mathlib.Core.Path.{ap, _∙_}
 use Rattle.bindings.specs.Packing.{callPacked}
 use Rattle.overloads.specs.SetPaper.{chosenPaper}
 use Rattle.overloads.specs.declared.list.ChosenAnswer.{ChosenAnswer}
