@@ -10,8 +10,8 @@ use mathlib.Core.Option.{some}
 use Prim.Native.Nat.{ℕ, _<_}
 use native.Mathlib.Omega.{arith}
 use lib.ListN.{length, getD, getElem?}
-use Rattle.overloads.specs.Signature.{Signature}
-use Rattle.overloads.specs.Choice.{longest}
+use Rattle.rules.specs.Signature.{Signature}
+use Rattle.rules.specs.Verdict.{longest}
 use Rattle.overloads.specs.Taking.{Takes, NoRule, OneLength, LeftAfter}
 use Rattle.domain.specs.declared.refusal.Refusal.{Refusal}
 use Rattle.domain.specs.declared.refusal.Refusal.the-variants.{EmptySet, NoRuleLeft}

@@ -7,8 +7,8 @@ use native.Mathlib.Omega.{arith}
 use lib.Dec.{eqb}
 use lib.ListN.{length, getD, drop, length-drop}
 use lib.Seq.{getD-take, getD-drop}
-use Rattle.overloads.specs.Rule.{argumentsOf}
-use Rattle.overloads.specs.declared.rule.Rule.{Rule}
+use Rattle.rules.specs.Rule.{argumentsOf}
+use Rattle.rules.specs.declared.rule.Rule.{Rule}
 use Rattle.worksheet.specs.declared.machine.Stack.{Stack}
 use Rattle.worksheet.specs.MachineStack.{operandsOf, InBounds, mostArguments, fieldsOf, alikeFrom}
 use Rattle.worksheet.proofs.Stacks.{counted, arity}

@@ -11,7 +11,7 @@ use lib.ListN.{length, getD}
 use borrow.Author.Tests.{ltb-true, lt-ltb, le-ltb, eqb-true, eq-eqb}
 use Rattle.domain.specs.Mask.{choose}
 use Rattle.domain.specs.Domain.{value?, constructorPart, numeric?, float?, converts}
-use Rattle.overloads.specs.Signature.{Signature, sameShape, sameNumber, reaches}
+use Rattle.rules.specs.Signature.{Signature, sameShape, sameNumber, reaches}
 use Rattle.overloads.specs.Taking.{NoRule}
 use Rattle.worksheet.proofs.Tests.{both-left, both-right}
 

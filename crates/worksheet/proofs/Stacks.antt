@@ -13,9 +13,9 @@ use lib.ListN.{length, getD, set, take, drop, length-set, length-reverse}
 use lib.Seq.{length-take-le, take-suc, take-suc-set, take-set-lt, take-take, getD-take}
 use borrow.Author.Tests.{lt-ltb, le-ltb, le-leb, lt-leb, eq-eqb, ne-eqb}
 use Rattle.domain.specs.Mask.{both, headOr}
-use Rattle.overloads.specs.Signature.{reaches}
-use Rattle.overloads.specs.Rule.{argumentsOf, signatureOf}
-use Rattle.overloads.specs.declared.rule.Rule.{Rule}
+use Rattle.rules.specs.Signature.{reaches}
+use Rattle.rules.specs.Rule.{argumentsOf, signatureOf}
+use Rattle.rules.specs.declared.rule.Rule.{Rule}
 use Rattle.worksheet.specs.declared.machine.Run.the-variants.{Ended}
 use Rattle.worksheet.specs.declared.machine.Stack.{Stack}
 use Rattle.worksheet.specs.declared.machine.Stepped.{Stepped}

@@ -4,8 +4,8 @@ use mathlib.Core.Bool.{Bool}
 use mathlib.Core.List.{List}
 use Prim.Native.Nat.{ℕ, _<_}
 use lib.ListN.{length, getD}
-use Rattle.overloads.specs.Signature.{Signature}
-use Rattle.overloads.specs.Choice.{longest}
+use Rattle.rules.specs.Signature.{Signature}
+use Rattle.rules.specs.Verdict.{longest}
 use Rattle.overloads.specs.Taking.{NoRule, LeftAfter}
 use Rattle.domain.specs.declared.refusal.Refusal.{Refusal}
 use Rattle.domain.specs.declared.refusal.Refusal.the-variants.{EmptySet, WrongCount, NoRuleLeft}

@@ -10,7 +10,7 @@ use Rattle.domain.specs.declared.conversion.Base.{Base}
 use Rattle.domain.specs.declared.conversion.Base.the-variants as base
 use Rattle.domain.specs.declared.scalar_set.ScalarAnswer.{ScalarAnswer}
 use Rattle.domain.specs.declared.scalar_set.ScalarAnswer.the-variants as scalar
-use Rattle.overloads.specs.Functions.{functionCount, listingOf}
+use Rattle.functions.specs.Functions.{functionCount, listingOf}
 use Rattle.overloads.specs.Call.{callOf, survivorsOfCall}
 use Rattle.overloads.specs.declared.call.CallAnswer.{CallAnswer}
 use Rattle.overloads.specs.declared.call.CallAnswer.the-variants as call

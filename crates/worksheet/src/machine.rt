@@ -10,18 +10,18 @@ ghost use mathlib.Core.Option.{some};
 ghost use Prim.Native.Nat.{_≤_};
 ghost use lib.Dec.{eqb};
 ghost use lib.ListN.{getD, getElem?};
-ghost use Rattle.overloads.specs.Rule.{signatureOf};
-ghost use Rattle.overloads.specs.Functions.{listingOf};
+ghost use Rattle.rules.specs.Rule.{signatureOf};
+ghost use Rattle.functions.specs.Functions.{listingOf};
 ghost use Rattle.worksheet.specs.Line.{lineOf};
 ghost use Rattle.worksheet.specs.Machine.{stepIf, runBytes};
 ghost use Rattle.worksheet.specs.TopLast.{pushLast, convertLast, applyLast, stepLast};
 ghost use Rattle.worksheet.specs.Run.{ranOf};
 ghost use Rattle.worksheet.specs.MachineStack.{mostArguments, fieldsOf, alikeFrom, InBounds, operandsOf, Holds, Did, leafDone, ranLast};
 use crate::expression::LAST_LEAF;
-use overloads::Rule;
-use overloads::RuleAnswer;
-use overloads::reaches;
-use overloads::rule_at;
+use functions::rule_at;
+use rules::Rule;
+use rules::RuleAnswer;
+use rules::reaches;
 
 // The stack holds at most so many operands.
 pub const MOST_OPERANDS: usize = 64;

@@ -3,7 +3,7 @@
 
 ghost use mathlib.Core.Path.{_≡_};
 ghost use lib.ListN.{getD};
-ghost use Rattle.overloads.specs.Rule.{argumentsOf};
+ghost use Rattle.rules.specs.Rule.{argumentsOf};
 ghost use Rattle.worksheet.specs.Line.{encode, conversions};
 ghost use Rattle.worksheet.specs.Sheet.{Wrote};
 ghost use Rattle.worksheet.specs.SecondPass.{fieldsOf, Within, placedAt, ConversionRoom, CallThere, CallTyped};
@@ -15,8 +15,8 @@ use crate::sheet::Sheet;
 use crate::stack::Stack;
 use domain::Refusal;
 use overloads::CallAnswer;
-use overloads::Rule;
 use overloads::call_of;
+use rules::Rule;
 
 // The mark of a conversion's line; a leaf's and a call's are their tags.
 const CONVERSION: u8 = 2;
