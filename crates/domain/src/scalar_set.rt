@@ -66,6 +66,26 @@ impl Scalar {
 
     // How many scalars there are.
     pub const COUNT: u8 = 12;
+
+    // The number of each scalar, in the order of the numbers.
+    pub fn numbers() -> [u8; 12]
+        ensures { λ r. ⌜ r ≡ upTo 12 ⌝ }
+    {
+        [
+            Scalar::ABSTRACT_INT.0,
+            Scalar::ABSTRACT_FLOAT.0,
+            Scalar::I32.0,
+            Scalar::I16.0,
+            Scalar::I64.0,
+            Scalar::U32.0,
+            Scalar::U16.0,
+            Scalar::U64.0,
+            Scalar::F32.0,
+            Scalar::F16.0,
+            Scalar::F64.0,
+            Scalar::BOOL.0,
+        ]
+    }
 }
 
 impl ScalarSet {

@@ -1,13 +1,4 @@
--- Demand 2, of single calls. Over any listing whose rules have one length, with the concrete-only switch on or off:
---
--- * The survivors of a call are the listing's entries that take every operand in turn and pass the switch, in order; the preferred
---   rule is the first of them, its index its place in the full listing, and the result that rule's own.
--- * What a call answers is exactly what is so: a rule, the first of the listing that takes the operands; 5 where no rule takes that
---   number of operands; 6 at operand k where some rule takes the operands before k, but none takes those up to k; 1 where rules take
---   the operands and the switch drops them all.
--- * A call is accepted exactly when some rule of the listing has that many arguments, each equal to or reached from the operand's
---   type, and with the switch on no abstract argument.
---
+-- Demand 2 holds of every listing whose rules have one length, and so of the 79 functions; its statement stands in the definitions.
 -- Assumes nothing.
 use mathlib.Core.Path.{_≡_, refl, sym, ap, _∙_, subst}
 use mathlib.Core.Bool.{Bool, true, false, false≢true}
@@ -27,7 +18,10 @@ use Rattle.overloads.specs.Call.{answered, survivorsOf}
 use Rattle.overloads.specs.declared.call.CallAnswer.the-variants as call
 use Rattle.overloads.specs.declared.call.Survivors.the-variants as survivors
 use Rattle.domain.specs.declared.refusal.Refusal.{Refusal}
-use Rattle.overloads.proofs.Choices.{passes, resolve-says}
+use Rattle.overloads.specs.Demand2.{passes, Demand2}
+use Rattle.functions.specs.Functions.{listingOf}
+use Rattle.functions.proofs.Database.{one-length}
+use Rattle.overloads.proofs.Choices.{resolve-says}
 use Rattle.overloads.proofs.Surviving.{survivors-members, survivors-refused}
 
 module _ (switch : Bool) (rules : List Signature) (ts : List ℕ) (one : OneLength rules) where
@@ -116,6 +110,22 @@ module _ (switch : Bool) (rules : List Signature) (ts : List ℕ) (one : OneLeng
 
   pub survivors-refused-alike : (why : Refusal) → survivorsOf switch rules ts ≡ survivors.Refused why → answered (resolve switch rules ts) ≡ call.Refused why
   survivors-refused-alike why e = survivors-refused switch rules ts why e
+
+  pub demand-2 : Demand2 switch rules ts
+  demand-2 = record {
+    chosen-so = λ c. exactly c .0;
+    so-chosen = λ c. exactly c .1;
+    accepted = accepted;
+    accepts = accepts;
+    survive = λ m e. survivors-are m e .0;
+    preferred = λ m e. survivors-are m e .1;
+    refused = survivors-refused-alike;
+  }
+
+-- for each of the 79 functions, and for no rules where the number is unknown
+pub of-functions : (switch : Bool) (f : ℕ) (ts : List ℕ) → Demand2 switch (listingOf f) ts
+unfolding OneLength
+of-functions switch f ts = demand-2 switch (listingOf f) ts (one-length f)
 
 -- ---- refusal 1: only the switch empties the set
 

@@ -9,7 +9,7 @@ use lib.ListN.{length}
 use Rattle.domain.specs.Mask.{every, bits}
 use Rattle.rules.specs.Signature.{Signature}
 use Rattle.rules.specs.Rule.{short?}
-use Rattle.overloads.specs.List.{signatures, listing, Valid}
+use Rattle.overloads.specs.List.{signatures, Valid}
 use Rattle.rules.specs.Regular.{regularRules, codesOf, allConclude, concludedOf, emptySet?}
 use Rattle.domain.specs.TypeCode.{predeclaredCode}
 use Rattle.functions.specs.Sequences.{floatScalars, concreteFloatScalars, concreteIntScalars, vectorSizes, vector, matrix, scalarOrVecn}
@@ -25,7 +25,7 @@ use Rattle.rules.specs.declared.regular.Regular.{Regular}
 use Rattle.overloads.proofs.Callables.{callable?, callable-of}
 use Rattle.functions.proofs.Places.{few-listed}
 use Rattle.functions.proofs.Database.{each-number, few-rules, some-rules}
-use Rattle.overloads.proofs.Expansions.{signatures-of, listing-of, valid-of}
+use Rattle.overloads.proofs.Expansions.{signatures-of, valid-of}
 
 -- ---- Regular sets
 
@@ -62,9 +62,6 @@ listed-valid l = valid-of (listedRules l) (short-listed l) (few-listed l)
 
 pub listed-signatures : (l : Listed) → signatures (listOf (listedRules l)) ≡ listedRules l
 listed-signatures l = signatures-of (listedRules l) (short-listed l)
-
-pub listed-listing : (l : Listed) → listing (listOf (listedRules l)) ≡ listedRules l
-listed-listing l = listing-of (listedRules l) (short-listed l)
 
 some-listed : (l : Listed) → 0 < length (listedRules l)
 unfolding listedRules floatScalars concreteFloatScalars concreteIntScalars vectorSizes vector matrix scalarOrVecn

@@ -21,8 +21,9 @@ use Rattle.domain.proofs.Masks.{sift-lt}
 use Rattle.domain.proofs.Meets.{select-ones}
 use Rattle.overloads.proofs.Entries.{number-length, select-keep}
 use Rattle.overloads.proofs.Firsts.{keep-keep}
-use Rattle.overloads.proofs.Narrowing.{takesFrom, Narrows, narrow-narrows, Some}
-use Rattle.overloads.proofs.Choices.{permits, passes, concrete-keeps}
+use Rattle.overloads.proofs.Narrowing.{Narrows, narrow-narrows, Some}
+use Rattle.overloads.specs.Demand2.{takesFrom, permits, passes}
+use Rattle.overloads.proofs.Choices.{concrete-keeps}
 use Rattle.overloads.proofs.ListResolving.{mask-entries}
 
 module _ (switch : Bool) (rules : List Signature) (ts : List ℕ) where

@@ -6,3 +6,4 @@ pub mod AnyOverloadSet
 pub mod Taking
 pub mod Call
 pub mod CallPaper
+pub mod Demand2

@@ -1,5 +1,5 @@
 -- 'A single call', apart from the steps that find the answer: which rules take operands, which of them a call means, and what is wrong
--- where none does. For a listing whose rules all have one length.
+-- where none does. For a listing whose rules all have one length. The theorems of Demand 2 and Demand 3 are said in these terms.
 use mathlib.Core.Path.{_≡_}
 use mathlib.Core.Bool.{Bool, true}
 use mathlib.Core.List.{List}

@@ -4,7 +4,7 @@ use mathlib.Core.Bool.{Bool, true, false}
 use mathlib.Core.List.{List, [], _∷_, map}
 use Prim.Native.Nat.{ℕ, _+_, _-_, _≤_, _<_}
 use native.Mathlib.Omega.{arith}
-use lib.ListN.{length, getD, drop, replicate, length-map, length-replicate, length-append, List·getD-append, drop-of-length-le}
+use lib.ListN.{length, getD, drop, replicate, length-map, List·getD-append, drop-of-length-le}
 use lib.Seq.{sets}
 use Rattle.domain.specs.Mask.{choose, both, every, padded}
 use Rattle.rules.specs.Rule.{blankRule, ruleOf}
@@ -32,12 +32,6 @@ module _ (r : Regular) {found : Codes} (e : found ≡ codesFound (codesOf r)) wh
   pub found-codes : found .codes ≡ padded 156 255 (codesOf r)
   unfolding codesFound
   found-codes = ap (λ (f : Codes). f .codes) e
-
-  pub found-long : length (found .codes) ≡ 156
-  found-long =
-      ap length found-codes
-      ∙ length-append (codesOf r) (replicate (156 - length (codesOf r)) 255)
-      ∙ omega (arith, length-replicate {A = ℕ} (156 - length (codesOf r)) 255, codes-few r)
 
   pub found-at : (k : ℕ) → k < length (codesOf r) → getD (found .codes) k 0 ≡ getD (codesOf r) k 0
   found-at k h = ap (λ (a : List ℕ). getD a k 0) found-codes ∙ List·getD-append (codesOf r) (replicate (156 - length (codesOf r)) 255) 0 k h

@@ -87,19 +87,3 @@ concrete-known r known = record {
 
 pub empty-known : Known emptyRegular
 empty-known = record { constructors = lit< tt; scalars = lit< tt; arity = lit≤ tt }
-
-pub narrowed-arity : (t : ℕ) (r : Regular) → narrowed t r .arity ≡ r .arity
-unfolding narrowed
-narrowed-arity t r = refl
-
-pub narrowed-conclude : (t : ℕ) (r : Regular) → narrowed t r .conclude ≡ r .conclude
-unfolding narrowed
-narrowed-conclude t r = refl
-
-pub concrete-arity : (r : Regular) → concreteSet r .arity ≡ r .arity
-unfolding concreteSet
-concrete-arity r = refl
-
-pub concrete-conclude : (r : Regular) → concreteSet r .conclude ≡ r .conclude
-unfolding concreteSet
-concrete-conclude r = refl
