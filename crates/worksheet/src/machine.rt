@@ -9,14 +9,14 @@ ghost use mathlib.Core.List.{[]};
 ghost use mathlib.Core.Option.{some};
 ghost use Prim.Native.Nat.{_≤_};
 ghost use lib.Dec.{eqb};
-ghost use lib.ListN.{getD, getElem?};
-ghost use Rattle.overloads.specs.Rule.{signatureOf};
+ghost use lib.ListN.{getElem?};
+ghost use Rattle.overloads.specs.Rule.{mostArguments, signatureOf};
 ghost use Rattle.overloads.specs.Functions.{listingOf};
 ghost use Rattle.worksheet.specs.Line.{lineOf};
 ghost use Rattle.worksheet.specs.Machine.{stepIf, runBytes};
 ghost use Rattle.worksheet.specs.TopLast.{pushLast, convertLast, applyLast, stepLast};
 ghost use Rattle.worksheet.specs.Run.{ranOf};
-ghost use Rattle.worksheet.specs.MachineStack.{mostArguments, fieldsOf, alikeFrom, InBounds, operandsOf, Holds, Did, leafDone, ranLast};
+ghost use Rattle.worksheet.specs.MachineStack.{alikeFrom, InBounds, operandsOf, Holds, Did, leafDone, ranLast};
 use crate::expression::LAST_LEAF;
 use overloads::Rule;
 use overloads::RuleAnswer;
@@ -246,7 +246,7 @@ fn matches(stack: Stack, rule: Rule) -> bool
     let first = stack.top - count;
     let mut i = 0;
     while i < count {
-        if !is_exactly(stack.types[first + i], argument(rule, i)) {
+        if !is_exactly(stack.types[first + i], rule.argument(i)) {
             return false;
         }
         i += 1;
@@ -259,23 +259,4 @@ fn is_exactly(operand: u8, argument: u8) -> bool
     ensures { λ r. ⌜ r ≡ eqb operand argument ⌝ }
 {
     operand == argument
-}
-
-// A rule's field at an index; 255 past the last.
-fn argument(rule: Rule, i: usize) -> u8
-    ensures { λ r. ⌜ r ≡ getD (fieldsOf rule) i 255 ⌝ }
-{
-    if i == 0 {
-        return rule.a0;
-    }
-    if i == 1 {
-        return rule.a1;
-    }
-    if i == 2 {
-        return rule.a2;
-    }
-    if i == 3 {
-        return rule.a3;
-    }
-    NO_TYPE
 }

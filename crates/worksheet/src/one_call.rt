@@ -2,11 +2,10 @@
 // the call's own line, and the result in place of the operands; or the refusal, with its place in the expression.
 
 ghost use mathlib.Core.Path.{_≡_};
-ghost use lib.ListN.{getD};
 ghost use Rattle.overloads.specs.Rule.{argumentsOf};
 ghost use Rattle.worksheet.specs.Line.{encode, conversions};
 ghost use Rattle.worksheet.specs.Sheet.{Wrote};
-ghost use Rattle.worksheet.specs.SecondPass.{fieldsOf, Within, placedAt, ConversionRoom, CallThere, CallTyped};
+ghost use Rattle.worksheet.specs.SecondPass.{Within, placedAt, ConversionRoom, CallThere, CallTyped};
 use crate::expression::CALL;
 use crate::expression::MOST_NODES;
 use crate::progress::Progress;
@@ -94,30 +93,11 @@ fn convert(operands: &[u8], rule: Rule, sheet: Sheet) -> Sheet
     let mut i: usize = 0;
     while i < operands.len() {
         let depth = operands.len() - 1 - i;
-        let wanted = argument(rule, i);
+        let wanted = rule.argument(i);
         if operands[i] != wanted {
             lines = lines.line(CONVERSION, depth as u8, wanted, 0);
         }
         i += 1;
     }
     lines
-}
-
-// The type of a rule's argument, from 0 to 3; 0 past these.
-fn argument(rule: Rule, i: usize) -> u8
-    ensures { λ r. ⌜ r ≡ getD (fieldsOf rule) i 0 ⌝ }
-{
-    if i == 0 {
-        return rule.a0;
-    }
-    if i == 1 {
-        return rule.a1;
-    }
-    if i == 2 {
-        return rule.a2;
-    }
-    if i == 3 {
-        return rule.a3;
-    }
-    0
 }
