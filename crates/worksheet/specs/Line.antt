@@ -31,7 +31,8 @@ conversions (t ∷ ts) (a ∷ az) = unlessSame (eqb t a) (conversionLine (length
 abbrev pub callLines : ℕ → ℕ → List ℕ → Signature → List Line
 callLines f i ts r = conversions ts (r .arguments) ++ (callLine f i (length ts) ∷ [])
 
--- bytes. Leaf: 0, type, 0, 0. Call: 1, function, index, number of arguments. Conversion: 2, depth, type, 0
+-- bytes, the first of which marks the kind of line. Leaf: 0, type, 0, 0. Call: 1, function, index, number of arguments. Conversion:
+-- 2, depth, type, 0. An expression's tags are numbered apart (specs/Tree.antt)
 abbrev pub leafMark : ℕ
 leafMark = 0
 

@@ -30,8 +30,8 @@ count none = 0
 count (more e es) = suc (count es)
 
 -- prefix bytes. Leaf: 0, type code. Call: 1, function, number of arguments, then the arguments
-abbrev pub leafTag : Leaf → ℕ
-leafTag l = 0
+abbrev pub leafTag : ℕ
+leafTag = 0
 
 abbrev pub callTag : ℕ
 callTag = 1
@@ -40,7 +40,7 @@ unfoldable mutual
   unfolding count
 
   pub bytesOf : Tree → List ℕ
-  bytesOf (leaf l) = leafTag l ∷ l .type ∷ []
+  bytesOf (leaf l) = leafTag ∷ l .type ∷ []
   bytesOf (call f es) = callTag ∷ f ∷ count es ∷ bytesOfAll es
 
   pub bytesOfAll : Trees → List ℕ

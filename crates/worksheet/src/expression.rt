@@ -16,16 +16,16 @@ use domain::Refusal;
 use overloads::FUNCTION_COUNT;
 
 // An expression has at most so many nodes.
-pub const MOST_NODES: usize = 64;
+pub(crate) const MOST_NODES: usize = 64;
 // The root has depth 1, the deepest node this one.
 const DEEPEST: usize = 16;
 // The type codes of leaves are 0 to this one.
-pub const LAST_LEAF: u8 = 156;
+pub(crate) const LAST_LEAF: u8 = 156;
 
 // The tag of a leaf.
-pub const LEAF: u8 = 0;
+pub(crate) const LEAF: u8 = 0;
 // The tag of a call.
-pub const CALL: u8 = 1;
+const CALL: u8 = 1;
 
 // What the first pass answers.
 pub enum Read {

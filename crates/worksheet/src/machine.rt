@@ -18,24 +18,18 @@ ghost use Rattle.worksheet.specs.TopLast.{pushLast, convertLast, applyLa
 ghost use Rattle.worksheet.specs.Run.{ranOf};
 ghost use Rattle.worksheet.specs.MachineStack.{alikeFrom, InBounds, operandsOf, Holds, Did, leafDone, ranLast};
 use crate::expression::LAST_LEAF;
+use crate::line::CALL_LINE;
+use crate::line::CONVERSION_LINE;
+use crate::line::LEAF_LINE;
+use crate::line::LINE;
+use crate::line::SPARE;
 use overloads::Rule;
 use overloads::RuleAnswer;
 use overloads::reaches;
 use overloads::rule_at;
 
 // The stack holds at most so many operands.
-pub const MOST_OPERANDS: usize = 64;
-
-// A line has so many bytes, the first of them its tag.
-pub const LINE: usize = 4;
-// The tag of a leaf's line.
-pub const LEAF_LINE: u8 = 0;
-// The tag of a call's line.
-pub const CALL_LINE: u8 = 1;
-// The tag of a conversion's line.
-pub const CONVERSION_LINE: u8 = 2;
-// What a byte holds that its line has no use for.
-pub const SPARE: u8 = 0;
+const MOST_OPERANDS: usize = 64;
 
 // What stands where no type does.
 const NO_TYPE: u8 = 255;

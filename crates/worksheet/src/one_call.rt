@@ -6,8 +6,10 @@ ghost use Rattle.overloads.specs.Rule.{argumentsOf};
 ghost use Rattle.worksheet.specs.Line.{encode, conversions};
 ghost use Rattle.worksheet.specs.Sheet.{Wrote};
 ghost use Rattle.worksheet.specs.SecondPass.{Within, placedAt, ConversionRoom, CallThere, CallTyped};
-use crate::expression::CALL;
 use crate::expression::MOST_NODES;
+use crate::line::CALL_LINE;
+use crate::line::CONVERSION_LINE;
+use crate::line::SPARE;
 use crate::progress::Progress;
 use crate::progress::Verdict;
 use crate::sheet::Sheet;
@@ -16,9 +18,6 @@ use domain::Refusal;
 use overloads::CallAnswer;
 use overloads::Rule;
 use overloads::call_of;
-
-// The mark of a conversion's line; a leaf's and a call's are their tags.
-const CONVERSION: u8 = 2;
 
 // The numbers of the two refusals of a single call that say something of its operands.
 const WRONG_COUNT: u8 = 5;
@@ -55,7 +54,7 @@ pub fn type_call(
         CallAnswer::Rule(chosen) => {
             let rule = chosen.rule;
             let converted = convert(operands, rule, sheet);
-            let lined = converted.line(CALL, function, chosen.index, count);
+            let lined = converted.line(CALL_LINE, function, chosen.index, count);
             let pushed = stack.cut(n).push(rule.result, at);
             Progress {
                 verdict: Verdict::Clean,
@@ -95,7 +94,7 @@ fn convert(operands: &[u8], rule: Rule, sheet: Sheet) -> Sheet
         let depth = operands.len() - 1 - i;
         let wanted = rule.argument(i);
         if operands[i] != wanted {
-            lines = lines.line(CONVERSION, depth as u8, wanted, 0);
+            lines = lines.line(CONVERSION_LINE, depth as u8, wanted, SPARE);
         }
         i += 1;
     }
