@@ -9,6 +9,7 @@ pub mod Typer
 pub mod Answer
 pub mod Meaning
 pub mod Fault
+pub mod Demand3
 pub mod Sheet
 pub mod Stack
 pub mod Typing
