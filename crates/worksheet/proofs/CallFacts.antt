@@ -1,7 +1,7 @@
 -- What a single call answers, for the second pass: a chosen rule has an argument for each operand, in the four fields of its record;
 -- an operand after which no rule is left is one of the operands.
 -- Rests on the database only by the laws of proofs/Database.antt. Assumes nothing.
-use mathlib.Core.Path.{_≡_, refl, ap, subst}
+use mathlib.Core.Path.{_≡_, ap, subst}
 use mathlib.Core.Bool.{Bool, true, false}
 use mathlib.Core.List.{List}
 use Prim.Native.Nat.{ℕ, _+_, _≤_, _<_}

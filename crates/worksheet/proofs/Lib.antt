@@ -6,7 +6,6 @@ pub mod OneTree
 pub mod FirstBytes
 pub mod Steps
 pub mod Answers
-pub mod Tests
 pub mod Choice
 pub mod Faults
 pub mod Exact

@@ -9,8 +9,8 @@ use Prim.Native.Nat.{ℕ, zero, suc, _≤_}
 use native.Mathlib.Omega.{arith}
 use lib.Dec.{ltb}
 use lib.ListN.{length, getElem?}
-use borrow.Author.Tests.{ltb-false, leb-true}
-use Rattle.domain.specs.Mask.{every, choose}
+use borrow.Author.Tests.{ltb-false}
+use Rattle.domain.specs.Mask.{choose}
 use Rattle.overloads.specs.Signature.{Signature}
 use Rattle.overloads.specs.Rule.{mostArguments, signatureOf, ruleOf}
 use Rattle.overloads.specs.Functions.{functionCount, listingOf, ruleIn, ruleAt}
@@ -22,9 +22,9 @@ use Rattle.overloads.proofs.Records.{record-says}
 use Rattle.worksheet.specs.declared.machine.Stack.{Stack}
 use Rattle.worksheet.specs.declared.machine.Stepped.{Stepped}
 use Rattle.worksheet.specs.TopLast.{applyLast}
-use Rattle.worksheet.specs.MachineStack.{Did, stop}
-use Rattle.worksheet.proofs.Tests.{both-left, both-right}
-use Rattle.worksheet.proofs.Database.{isShort, short, unknown-none}
+use Rattle.worksheet.specs.MachineStack.{Did}
+use Rattle.worksheet.proofs.Stacks.{stop}
+use Rattle.worksheet.proofs.Database.{four-arguments, unknown-none}
 
 clash : {A : Type 0} {q : Rule} {why : Refusal} → answered.Refused why ≡ answered.Rule q → A
 clash e = absurd (let z : _≡_ {A = ℕ} 0 1 = cc in omega arith)
@@ -41,11 +41,11 @@ stands-first r q h e = record {
   few = subst (λ (p : Rule). p .count ≤ mostArguments) e h;
 }
 
-stands-in : (rs : List Signature) (i : ℕ) (q : Rule) → every isShort rs ≡ true → ruleIn rs i ≡ answered.Rule q → Stands (getElem? rs i) q
+stands-in : (rs : List Signature) (i : ℕ) (q : Rule) → ((r : Signature) → getElem? rs i ≡ some r → length (r .arguments) ≤ mostArguments)
+    → ruleIn rs i ≡ answered.Rule q → Stands (getElem? rs i) q
 stands-in [] i q s e = clash e
-stands-in (r ∷ rs) zero q s e =
-    stands-first r q (leb-true (length (r .arguments)) mostArguments (both-left (isShort r) (every isShort rs) s)) (cc)
-stands-in (r ∷ rs) (suc i) q s e = stands-in rs i q (both-right (isShort r) (every isShort rs) s) e
+stands-in (r ∷ rs) zero q s e = stands-first r q (s r refl) (cc)
+stands-in (r ∷ rs) (suc i) q s e = stands-in rs i q s e
 
 none-in : (rs : List Signature) (i : ℕ) (why : Refusal) → ruleIn rs i ≡ answered.Refused why → getElem? rs i ≡ none
 none-in [] i why e = refl
@@ -59,7 +59,7 @@ module _ (f i : ℕ) where
     where
       go : (b : Bool) → answered.Rule q ≡ choose b (ruleIn (listingOf f) i) (answered.Refused (Unknown 0))
           → Stands (getElem? (listingOf f) i) q
-      go true p = stands-in (listingOf f) i q (short f) (sym p)
+      go true p = stands-in (listingOf f) i q (four-arguments f i) (sym p)
       go false p = clash (sym p)
 
   pub none-there : (why : Refusal) → answered.Refused why ≡ ruleAt f i → getElem? (listingOf f) i ≡ none

@@ -23,7 +23,11 @@ use Rattle.worksheet.specs.declared.machine.Stepped.{Stepped}
 use Rattle.worksheet.specs.Line.{onlyIf}
 use Rattle.worksheet.specs.Machine.{mostOperands, convertible, same}
 use Rattle.worksheet.specs.TopLast.{pushLast, convertLast, applyLast}
-use Rattle.worksheet.specs.MachineStack.{ranLast, operandsOf, InBounds, Did, stop, alikeFrom}
+use Rattle.worksheet.specs.MachineStack.{ranLast, operandsOf, InBounds, Did, alikeFrom}
+
+-- the answer of a line that stops, with the stack as it was
+abbrev pub stop : Stack → Stepped
+stop k = record { done = false; stack = k }
 
 module _ (k : Stack) (fits : InBounds k) where
   pub counted : length (operandsOf k) ≡ k .top

@@ -2,7 +2,7 @@
 use mathlib.Core.Bool.{Bool, true, false}
 use mathlib.Core.List.{List, [], _∷_, _++_}
 use mathlib.Core.Option.{Option, none, some}
-use Prim.Native.Nat.{ℕ, _<_}
+use Prim.Native.Nat.{ℕ}
 use lib.Dec.{eqb}
 use lib.ListN.{length}
 use Rattle.domain.specs.Mask.{choose, both}
@@ -50,11 +50,6 @@ fourBytes (conversionLine d a) = conversionMark ∷ d ∷ a ∷ 0 ∷ []
 unfoldable pub encode : List Line → List ℕ
 encode [] = []
 encode (l ∷ ls) = fourBytes l ++ encode ls
-
--- every number is a byte
-abbrev pub AreBytes : List ℕ → Type 0
-AreBytes [] = Unit
-AreBytes (b ∷ bs) = (b < 256) × AreBytes bs
 
 -- and back: an unknown tag, or a spare byte that isn't 0, spells no line
 abbrev pub onlyIf {ℓ} : {A : Type ℓ} → Bool → Option A → Option A

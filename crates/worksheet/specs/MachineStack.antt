@@ -42,10 +42,6 @@ abbrev pub Did : Option (List ℕ) → Stepped → Type 0
 Did none r = r .done ≡ false
 Did (some s) r = Done s r
 
--- the answer of a line that stops, with the stack as it was
-abbrev pub stop : Stack → Stepped
-stop k = record { done = false; stack = k }
-
 -- a leaf's line, behind the test of its spare bytes
 abbrev pub leafDone : ℕ → List ℕ → Option (List ℕ)
 leafDone t s = onlyIf (leb t lastLeaf) (pushLast t s)

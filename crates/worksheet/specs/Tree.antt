@@ -1,5 +1,5 @@
 -- 'Expressions': trees, their prefix bytes and their limits, apart from any way of reading them.
-use Prim.Native.Nat.{ℕ, zero, suc, _+_, _≤_, _<_, max}
+use Prim.Native.Nat.{ℕ, suc, _+_, _≤_, _<_, max}
 use mathlib.Core.List.{List, [], _∷_, _++_}
 
 -- a leaf names the type of an operand
