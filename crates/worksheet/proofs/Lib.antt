@@ -1,3 +1,4 @@
+-- The laws that the proofs of the functions cite, and the theorems: AcceptsExactly, Demand3, OurFunctions and Readings.
 pub mod Bytes
 pub mod Sound
 pub mod Complete

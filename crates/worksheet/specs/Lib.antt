@@ -1,3 +1,4 @@
+-- What the contracts and theorems of this crate say: expressions, their reading and typing, worksheets and the strict machine.
 pub mod Tree
 pub mod Reading
 pub mod FirstPass

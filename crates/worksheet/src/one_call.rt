@@ -25,7 +25,7 @@ const WRONG_COUNT: u8 = 5;
 const NO_RULE_LEFT: u8 = 6;
 
 // Types the call at `at`, whose operands are the last `count` on the stack, and whose last byte stands before `past`.
-pub fn type_call(
+pub(crate) fn type_call(
     function: u8,
     count: u8,
     at: usize,
