@@ -7,8 +7,6 @@ pub mod OneTree
 pub mod FirstBytes
 pub mod Steps
 pub mod Answers
-pub mod Choice
-pub mod Faults
 pub mod Exact
 pub mod Own
 pub mod Room
