@@ -165,9 +165,9 @@ def boundary(number, texts):
     return [number] + rules(texts)
 
 
-# Document 01's limits of an expression, not the crate's: the expression, the buffer's size, number, place and type, and the worksheet.
-ABS, CLAMP, INSERT_BITS = 0, 4, 78
-I32, U32, F32 = 2, 5, 8
+# Document 01's limits of an expression and its error that looks right, not the crate's: the expression, the buffer's size, number, place and type, and the worksheet.
+ABS, CLAMP, POW, DISTANCE, INSERT_BITS = 0, 4, 32, 66, 78
+ABSTRACT_FLOAT, I32, U32, F32, F16 = 1, 2, 5, 8, 9
 
 
 def leaf(t):
@@ -219,6 +219,7 @@ LIMITS = [
     (NODES_64, 256, (0, 0, F32), NODES_64_SHEET),
     (NODES_64, 255, (10, 256, 255), []),
     (NODES_64, 0, (10, 256, 255), []),
+    (call(POW, call(DISTANCE, leaf(ABSTRACT_FLOAT), leaf(ABSTRACT_FLOAT)), leaf(F16)), 508, (6, 10, 255), []),
 ]
 
 

@@ -5,7 +5,7 @@ use Prim.Native.Nat.{ℕ}
 use Rattle.domain.specs.declared.answer.Verdict.{Verdict}
 use Rattle.domain.specs.declared.answer.Verdict.the-variants.{Accepted, Refused}
 use Rattle.domain.specs.declared.refusal.Refusal.{Refusal}
-use Rattle.overloads.specs.List.{onVerdict}
+use Rattle.rules.specs.Verdict.{onVerdict}
 use Rattle.overloads.specs.declared.list.List.{List}
 use Rattle.overloads.specs.declared.list.ListAnswer.{ListAnswer}
 use Rattle.bindings.specs.Sets.{onList}

@@ -9,9 +9,9 @@ use lib.Seq.{sets}
 use Rattle.domain.specs.Mask.{upTo}
 use Rattle.domain.proofs.Bits.{upTo-length}
 use Rattle.domain.proofs.Fills.{filled}
-use Rattle.overloads.specs.Rule.{blankRule}
-use Rattle.overloads.specs.declared.rule.Rule.{Rule}
-use Rattle.overloads.proofs.Runs.{numbered, next-at, past-at}
+use Rattle.rules.specs.Rule.{blankRule}
+use Rattle.rules.specs.declared.rule.Rule.{Rule}
+use Rattle.functions.proofs.Runs.{numbered, next-at, past-at}
 use Rattle.bindings.specs.Sets.{ruleIn, rulesIn}
 
 module _ (s : List ℕ) where

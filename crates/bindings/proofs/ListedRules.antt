@@ -6,7 +6,6 @@ use mathlib.Core.List.{List, [], _∷_}
 use Prim.Native.Nat.{ℕ, zero, suc, _≤_, _<_}
 use native.Mathlib.Nat.{le-of-suc-le-suc, not-suc-le-zero}
 use native.Mathlib.Omega.{arith}
-use lib.Dec.{ltb}
 use lib.ListN.{length, getD}
 use borrow.Author.Tests.{lt-ltb, le-ltb}
 use Rattle.domain.specs.Mask.{choose}
@@ -16,17 +15,17 @@ use Rattle.domain.specs.declared.answer.Verdict.{Verdict}
 use Rattle.domain.specs.declared.answer.Verdict.the-variants as verdict
 use Rattle.domain.specs.declared.refusal.Refusal.{Refusal}
 use Rattle.domain.specs.declared.refusal.Refusal.the-variants.{Unknown, NoConclusion}
-use Rattle.overloads.specs.Signature.{Signature}
-use Rattle.overloads.specs.Rule.{blankRule}
-use Rattle.overloads.specs.List.{onVerdict}
-use Rattle.overloads.specs.Listing.{acceptedListing, refusedListing}
-use Rattle.overloads.specs.Regular.{regularVerdict, regularRules, allConclude, listedRules, regularListing}
-use Rattle.overloads.specs.declared.listing.Listing.{Listing}
-use Rattle.overloads.specs.declared.regular.Regular.{Regular}
-use Rattle.overloads.specs.declared.rule.Rule.{Rule}
-use Rattle.overloads.specs.declared.rule.RuleAnswer.{RuleAnswer}
-use Rattle.overloads.specs.declared.rule.RuleAnswer.the-variants as rule
-use Rattle.overloads.proofs.Listings.{codes-few, rules-count}
+use Rattle.rules.specs.Signature.{Signature}
+use Rattle.rules.specs.Rule.{blankRule}
+use Rattle.rules.specs.Verdict.{onVerdict}
+use Rattle.rules.specs.Listing.{acceptedListing, refusedListing}
+use Rattle.rules.specs.Regular.{regularVerdict, regularRules, allConclude, listedRules, regularListing}
+use Rattle.rules.specs.declared.listing.Listing.{Listing}
+use Rattle.rules.specs.declared.regular.Regular.{Regular}
+use Rattle.rules.specs.declared.rule.Rule.{Rule}
+use Rattle.rules.specs.declared.rule.RuleAnswer.{RuleAnswer}
+use Rattle.rules.specs.declared.rule.RuleAnswer.the-variants as rule
+use Rattle.rules.proofs.Listings.{codes-few, rules-count}
 use Rattle.bindings.specs.Sets.{within, listedAt}
 
 -- a listing has at most 156 rules

@@ -10,8 +10,8 @@ use lib.Dec.{leb, ltb, eqb}
 use lib.ListN.{length, getD, set, take, drop, length-set, getElem?}
 use borrow.Author.Tests.{ltb-true}
 use Rattle.domain.specs.Mask.{both}
-use Rattle.overloads.specs.Signature.{Signature}
-use Rattle.worksheet.specs.declared.machine.Run.the-variants.{Ended, Stopped}
+use Rattle.rules.specs.Signature.{Signature}
+use Rattle.worksheet.specs.declared.machine.Run.the-variants.{Ended}
 use Rattle.worksheet.specs.Tree.{lastLeaf}
 use Rattle.worksheet.specs.Line.{Line, leafLine, conversionLine, callLine, onlyIf, lineOf}
 use Rattle.worksheet.specs.Machine.{Outcome, ended, stopped, mostOperands, push, convertible, convertAt, same, apply, next, stepIf, runBytesBy, step, runBytes}

@@ -7,7 +7,7 @@ use lib.ListN.{getD}
 use Rattle.domain.specs.Mask.{choose}
 use Rattle.domain.specs.Paper.{Paper}
 use Rattle.domain.specs.Refusal.{numberOf}
-use Rattle.overloads.specs.List.{onVerdict}
+use Rattle.rules.specs.Verdict.{onVerdict}
 use Rattle.overloads.specs.declared.list.ListAnswer.{ListAnswer}
 use Rattle.domain.specs.declared.conversion.Base.{Base}
 use Rattle.domain.specs.declared.conversion.Base.the-variants as base

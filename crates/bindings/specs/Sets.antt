@@ -9,19 +9,20 @@ use Rattle.domain.specs.declared.refusal.Refusal.{Refusal}
 use Rattle.domain.specs.declared.refusal.Refusal.the-variants.{Unknown, IllFormed}
 use Rattle.domain.specs.declared.answer.CountAnswer.{CountAnswer}
 use Rattle.domain.specs.declared.answer.CountAnswer.the-variants as count
-use Rattle.overloads.specs.Rule.{blankRule}
-use Rattle.overloads.specs.List.{mostRules, acceptedList, refusedList, onVerdict}
-use Rattle.overloads.specs.declared.rule.Rule.{Rule}
-use Rattle.overloads.specs.declared.rule.RuleAnswer.{RuleAnswer}
-use Rattle.overloads.specs.declared.rule.RuleAnswer.the-variants as rule
+use Rattle.rules.specs.Rule.{blankRule}
+use Rattle.rules.specs.Verdict.{onVerdict}
+use Rattle.overloads.specs.List.{mostRules, acceptedList, refusedList}
+use Rattle.rules.specs.declared.rule.Rule.{Rule}
+use Rattle.rules.specs.declared.rule.RuleAnswer.{RuleAnswer}
+use Rattle.rules.specs.declared.rule.RuleAnswer.the-variants as rule
 use Rattle.overloads.specs.declared.list.List.{List}
 use Rattle.overloads.specs.declared.list.ListAnswer.{ListAnswer}
-use Rattle.overloads.specs.declared.listing.Listing.{Listing}
-use Rattle.overloads.specs.declared.regular.ConclusionRule.{ConclusionRule}
-use Rattle.overloads.specs.declared.regular.ConclusionRule.the-variants.{ArgumentType, Scalar, Frexp, Modf, U32, I32, Vec2F, Vec4F, Vec4I, Vec4U}
-use Rattle.overloads.specs.declared.regular.Regular.{Regular}
-use Rattle.overloads.specs.declared.regular.RegularAnswer.{RegularAnswer}
-use Rattle.overloads.specs.declared.regular.RegularAnswer.the-variants as regular
+use Rattle.rules.specs.declared.listing.Listing.{Listing}
+use Rattle.rules.specs.declared.regular.ConclusionRule.{ConclusionRule}
+use Rattle.rules.specs.declared.regular.ConclusionRule.the-variants.{ArgumentType, Scalar, Frexp, Modf, U32, I32, Vec2F, Vec4F, Vec4I, Vec4U}
+use Rattle.rules.specs.declared.regular.Regular.{Regular}
+use Rattle.rules.specs.declared.regular.RegularAnswer.{RegularAnswer}
+use Rattle.rules.specs.declared.regular.RegularAnswer.the-variants as regular
 
 -- ---- a Regular set: arity, the two masks, the conclusion's number
 

@@ -4,9 +4,9 @@
 ghost use mathlib.Core.Path.{_≡_};
 ghost use Prim.Native.Nat.{_<_};
 ghost use Rattle.overloads.specs.List.{listArg, listStep, listPreferred, refusedList};
-ghost use Rattle.overloads.specs.SetPaper.{chosenPaper};
+ghost use Rattle.overloads.specs.CallPaper.{chosenPaper};
 ghost use Rattle.overloads.specs.declared.list.ChosenAnswer.the-variants as chosen;
-ghost use Rattle.overloads.specs.declared.rule.Keep.the-variants as keep;
+ghost use Rattle.rules.specs.declared.rule.Keep.the-variants as keep;
 ghost use Rattle.bindings.specs.Packing.{membersPacked, callPacked};
 ghost use Rattle.bindings.specs.Sets.{ruleIn, rulesIn, listFrom, onList};
 use crate::packing::NONE;
@@ -19,7 +19,7 @@ use domain::Verdict;
 use overloads::ChosenAnswer;
 use overloads::List;
 use overloads::ListAnswer;
-use overloads::Rule;
+use rules::Rule;
 
 // The bytes of a rule.
 const RULE_BYTES: usize = 6;

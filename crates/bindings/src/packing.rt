@@ -6,15 +6,15 @@ ghost use mathlib.Core.Path.{_≡_};
 ghost use Prim.Native.Nat.{_<_};
 ghost use Rattle.domain.specs.Refusal.{numberOf, placeOf};
 ghost use Rattle.overloads.specs.List.{refusedList};
-ghost use Rattle.overloads.specs.SetPaper.{rulePaper, regularPaper, regularValues};
+ghost use Rattle.rules.specs.SetPaper.{rulePaper, regularPaper, regularValues};
 ghost use Rattle.bindings.specs.Packing.{fourBytes, twoHalves, twoWords, atMost, packed, rulePacked, regularPacked, membersPacked};
 use domain::Refusal;
 use domain::Verdict;
 use overloads::ListAnswer;
-use overloads::Regular;
-use overloads::RegularAnswer;
-use overloads::Rule;
-use overloads::RuleAnswer;
+use rules::Regular;
+use rules::RegularAnswer;
+use rules::Rule;
+use rules::RuleAnswer;
 
 // What stands for a value that a refusal leaves out.
 pub const NONE: u8 = 255;

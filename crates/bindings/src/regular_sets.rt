@@ -4,11 +4,11 @@
 
 ghost use mathlib.Core.Path.{_≡_};
 ghost use lib.ListN.{getD};
-ghost use Rattle.overloads.specs.Regular.{regularArg, regularConcrete, regularPreferred, regularListing};
-ghost use Rattle.overloads.specs.SetPaper.{regularPaper, rulePaper};
-ghost use Rattle.overloads.specs.declared.regular.ConclusionRule.the-variants.{Vec4U};
-ghost use Rattle.overloads.specs.declared.regular.RegularAnswer.the-variants as regular;
-ghost use Rattle.overloads.specs.declared.rule.RuleAnswer.the-variants as rule;
+ghost use Rattle.rules.specs.Regular.{regularArg, regularConcrete, regularPreferred, regularListing};
+ghost use Rattle.rules.specs.SetPaper.{regularPaper, rulePaper};
+ghost use Rattle.rules.specs.declared.regular.ConclusionRule.the-variants.{Vec4U};
+ghost use Rattle.rules.specs.declared.regular.RegularAnswer.the-variants as regular;
+ghost use Rattle.rules.specs.declared.rule.RuleAnswer.the-variants as rule;
 ghost use Rattle.bindings.specs.Packing.{regularPacked, rulePacked};
 ghost use Rattle.bindings.specs.Sets.{conclusions, regularFrom, onRegular, listedAt};
 use crate::packing::pack_regular_answer;
@@ -17,11 +17,11 @@ use domain::ConstructorSet;
 use domain::CountAnswer;
 use domain::Refusal;
 use domain::ScalarSet;
-use overloads::ConclusionRule;
-use overloads::Listing;
-use overloads::Regular;
-use overloads::RegularAnswer;
-use overloads::RuleAnswer;
+use rules::ConclusionRule;
+use rules::Listing;
+use rules::Regular;
+use rules::RegularAnswer;
+use rules::RuleAnswer;
 
 // How many conclusions there are.
 const CONCLUSION_COUNT: u8 = 10;

@@ -1,8 +1,8 @@
 -- Laws of the numbers below n and of the numbers of a mask's bits. Assumes nothing.
-use mathlib.Core.Path.{_≡_, refl, sym, ap, ap₂, _∙_, subst, subst⁻¹}
+use mathlib.Core.Path.{_≡_, refl, sym, ap, _∙_, subst, subst⁻¹}
 use mathlib.Core.Bool.{Bool, true, false}
-use mathlib.Core.List.{List, [], _∷_}
-use Prim.Native.Nat.{ℕ, zero, suc, _+_, _-_, _*_, _/_, _%_, _^_, _≤_, _<_, suc-le-suc, zero-le}
+use mathlib.Core.List.{[], _∷_}
+use Prim.Native.Nat.{ℕ, zero, suc, _+_, _-_, _*_, _/_, _%_, _^_, _≤_, _<_}
 use native.Mathlib.Nat.{add-zero, zero-add, zero-mul, mul-one, add-suc, suc-add, le-of-suc-le-suc, not-suc-le-zero, pow-suc, mul-assoc, le-refl}
 use native.Mathlib.Omega.{arith}
 use lib.Dec.{eqb, ltb}
@@ -10,7 +10,6 @@ use borrow.Author.Tests.{ltb-true, ltb-false}
 use lib.Arith.{lt-one}
 use lib.Count.{ones, trailingZeros, trailing-of-zero}
 use lib.ListN.{length, getD}
-use lib.Pow.{pow-pos, pow-mono}
 use Rattle.domain.specs.Mask.{consIf, odd, select, filter, sift, countFrom, upTo, bits, maskOf, headOr}
 use Rattle.domain.proofs.Masks.{half-lt, two, select-none, select-length, select-count, sift-lt, Turn, turn}
 use Rattle.domain.proofs.Sifts.{select-sift}

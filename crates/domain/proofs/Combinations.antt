@@ -1,17 +1,16 @@
 -- The combination of two scalars: the table's rule, that a combination is a scalar or none, and a consensus one component further.
 -- Assumes nothing.
-use mathlib.Core.Path.{_≡_, refl, sym, ap, ap₂, _∙_, subst}
+use mathlib.Core.Path.{_≡_, refl, sym, ap, ap₂, _∙_}
 use mathlib.Core.Bool.{Bool, true, false}
 use mathlib.Core.List.{List, [], _∷_}
-use Prim.Native.Nat.{ℕ, suc, _+_, _*_, _/_, _%_, _≤_, _<_}
+use Prim.Native.Nat.{ℕ, _+_, _*_, _/_, _%_, _≤_, _<_}
 use native.Mathlib.Numerals.{add-one}
 use native.Mathlib.Omega.{arith}
 use lib.ListN.{length, getD, drop, drop-of-length-le}
-use borrow.Author.Tests.{lt-ltb, le-ltb, eq-eqb, ne-eqb}
+use borrow.Author.Tests.{lt-ltb, le-ltb, ne-eqb}
 use Rattle.domain.specs.Mask.{choose}
 use Rattle.domain.specs.Domain.{converts}
 use Rattle.domain.specs.Conversion.{combination, none, agree, agreeWithFirst}
-use Rattle.domain.specs.declared.scalar_set.ScalarAnswer.{ScalarAnswer}
 use Rattle.domain.specs.declared.scalar_set.ScalarAnswer.the-variants.{Scalar, Refused}
 use Rattle.domain.specs.declared.refusal.Refusal.the-variants.{NoConsensus, NothingToCombine}
 use Rattle.domain.proofs.Table.{tabulate, entry}

@@ -1,3 +1,4 @@
+-- Laws that the proofs of several functions use.
 pub mod Table
 pub mod Filters
 pub mod Sifts

@@ -11,7 +11,7 @@ use lib.Count.{trailingZeros, under, ones, ones-step}
 use lib.Dec.{eqb}
 use lib.ListN.{length, getD, length-map}
 use lib.Arith.{lt-one}
-use Rattle.domain.specs.Mask.{consIf, odd, select, filter, both, digit, sift}
+use Rattle.domain.specs.Mask.{consIf, odd, select, both, digit, sift}
 
 -- ---- a mask's lowest bit, and the rest
 
@@ -143,7 +143,7 @@ select-none (x ∷ xs) = select-none xs
 pub bit-is : (w t : ℕ) → t < w → (1 * 2 ^ t) % 2 ^ w ≡ 2 ^ t
 bit-is w t h = ap (λ (x : ℕ). x % 2 ^ w) (one-mul (2 ^ t)) ∙ mod-eq-of-lt (pow-lt h)
 
--- what owning an array of structs tells of its list: `search (needs, mapped-long)` shows the list's length
+-- a list is as long as what it is mapped to; so it is known of an array of structs
 pub mapped-long : (X Y : Type 0) (f : X → Y) (l : List X) (n : ℕ) → length (map f l) ≡ n → length l ≡ n
 mapped-long X Y f l n e = sym (length-map l f) ∙ e
 

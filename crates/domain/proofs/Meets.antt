@@ -1,18 +1,18 @@
 -- Laws of the meet of two masks, and of a full mask. Assumes nothing.
 use mathlib.Core.Path.{_≡_, refl, sym, ap, ap₂, _∙_, subst, subst⁻¹}
 use mathlib.Core.Bool.{Bool, true, false}
-use mathlib.Core.List.{List, [], _∷_, _++_}
-use Prim.Native.Nat.{ℕ, zero, suc, _+_, _-_, _*_, _/_, _%_, _^_, _≤_, _<_, min, zero-le, suc-le-suc}
-use native.Mathlib.Nat.{zero-min, min-zero, mod-lt, zero-lt-suc, pow-suc, mod-eq-of-lt, add-zero, mul-one, zero-add, mul-assoc, le-of-suc-le-suc}
+use mathlib.Core.List.{List, [], _∷_}
+use Prim.Native.Nat.{ℕ, zero, suc, _+_, _-_, _*_, _/_, _%_, _^_, _≤_, min}
+use native.Mathlib.Nat.{zero-min, pow-suc, le-of-suc-le-suc}
 use native.Mathlib.Omega.{arith}
 use lib.Dec.{eqb}
-use lib.Bits.{bitAnd, and-step, and-comm, and-zero-r, and-mask, block-half, block-odd}
-use lib.Arith.{lt-one, le-zero}
+use lib.Bits.{bitAnd, and-step, and-zero-r}
+use lib.Arith.{le-zero}
 use lib.Pow.{pow-pos}
 use lib.ListN.{length, take}
 use Rattle.domain.specs.Mask.{consIf, odd, select, filter, both, digit, sift}
-use Rattle.domain.proofs.Masks.{half-lt, two}
-use Rattle.domain.proofs.Sifts.{low, high, digit-test, odd-low, select-sift}
+use Rattle.domain.proofs.Masks.{two}
+use Rattle.domain.proofs.Sifts.{low, high, select-sift}
 
 -- the lowest bit of a meet
 min-digit : (m : ℕ) (b : Bool) → min (m % 2) (digit b) ≡ digit (both (odd m) b)

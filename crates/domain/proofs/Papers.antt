@@ -3,12 +3,15 @@
 use mathlib.Core.Path.{_≡_, refl, sym, ap, _∙_}
 use mathlib.Core.Bool.{Bool, true, false}
 use mathlib.Core.List.{List, [], _∷_}
-use Prim.Native.Nat.{ℕ, _≤_, _<_}
+use Prim.Native.Nat.{ℕ, _<_}
 use native.Mathlib.Omega.{arith}
-use lib.Dec.{eqb}
+use lib.Dec.{eqb, ltb}
 use lib.ListN.{getD}
-use borrow.Author.Tests.{ne-eqb}
+use borrow.Author.Tests.{ne-eqb, eqb-false, ltb-true}
 use Rattle.domain.specs.Mask.{choose}
+use Rattle.domain.specs.Domain.{value?, known?, scalarPart}
+use Rattle.domain.specs.TypeCode.{leafScalar}
+use Rattle.domain.specs.Conversion.{none, combination, combinedTo, combineOf}
 use Rattle.domain.specs.Refusal.{numberOf, placeOf}
 use Rattle.domain.specs.Paper.{Paper, verdictPaper, testPaper, countPaper, scalarPaper, constructorPaper, codePaper, leafPaper, combinationPaper, sizePaper, partsPaper}
 use Rattle.domain.specs.declared.refusal.Refusal.{Refusal}
@@ -21,13 +24,11 @@ use Rattle.domain.specs.declared.answer.CountAnswer.{CountAnswer}
 use Rattle.domain.specs.declared.answer.CountAnswer.the-variants as count
 use Rattle.domain.specs.declared.scalar_set.ScalarAnswer.{ScalarAnswer}
 use Rattle.domain.specs.declared.scalar_set.ScalarAnswer.the-variants as scalar
-use Rattle.domain.specs.declared.constructor_set.ConstructorSize.{ConstructorSize}
 use Rattle.domain.specs.declared.constructor_set.ConstructorSize.the-variants as zone
 use Rattle.domain.specs.declared.constructor_set.SizeAnswer.{SizeAnswer}
 use Rattle.domain.specs.declared.constructor_set.SizeAnswer.the-variants as size
 use Rattle.domain.specs.declared.constructor_set.ConstructorAnswer.{ConstructorAnswer}
 use Rattle.domain.specs.declared.constructor_set.ConstructorAnswer.the-variants as constructor
-use Rattle.domain.specs.declared.type_code.TypeParts.{TypeParts}
 use Rattle.domain.specs.declared.type_code.TypeParts.the-variants as part
 use Rattle.domain.specs.declared.type_code.PartsAnswer.{PartsAnswer}
 use Rattle.domain.specs.declared.type_code.PartsAnswer.the-variants as parts
@@ -37,6 +38,7 @@ use Rattle.domain.specs.declared.type_code.LeafScalar.{LeafScalar}
 use Rattle.domain.specs.declared.type_code.LeafScalar.the-variants as leaf
 use Rattle.domain.specs.declared.conversion.Combination.{Combination}
 use Rattle.domain.specs.declared.conversion.Combination.the-variants as combined
+use Rattle.domain.proofs.Combinations.{combination-known}
 
 -- ---- refusals
 
@@ -105,75 +107,101 @@ module _ {A : Type 0} (f : List ℕ → A) (g : Refusal → A) where
 pub one-to-one : {A : Type 0} (paper : A → Paper) (unpaper : Paper → A) → ((a : A) → unpaper (paper a) ≡ a) → (a b : A) → paper a ≡ paper b → a ≡ b
 one-to-one paper unpaper back a b e = sym (back a) ∙ ap unpaper e ∙ back b
 
-verdict-back : (a : Verdict) → read (λ vs. verdict.Accepted) verdict.Refused (verdictPaper a) ≡ a
+-- each kind of answer, from its values
+
+abbrev verdictIn : List ℕ → Verdict
+verdictIn vs = verdict.Accepted
+
+verdict-back : (a : Verdict) → read verdictIn verdict.Refused (verdictPaper a) ≡ a
 unfolding read
 verdict-back verdict.Accepted = refl
-verdict-back (verdict.Refused why) = reads-refused (λ vs. verdict.Accepted) verdict.Refused why []
+verdict-back (verdict.Refused why) = reads-refused verdictIn verdict.Refused why []
 
 pub verdict-one : (a b : Verdict) → verdictPaper a ≡ verdictPaper b → a ≡ b
-verdict-one = one-to-one verdictPaper (read (λ vs. verdict.Accepted) verdict.Refused) verdict-back
+verdict-one = one-to-one verdictPaper (read verdictIn verdict.Refused) verdict-back
 
-test-back : (a : Test) → read (λ vs. choose (eqb (getD vs 0 0) 1) test.Yes test.No) test.Refused (testPaper a) ≡ a
+abbrev testIn : List ℕ → Test
+testIn vs = choose (eqb (getD vs 0 0) 1) test.Yes test.No
+
+test-back : (a : Test) → read testIn test.Refused (testPaper a) ≡ a
 unfolding read
 test-back test.Yes = refl
 test-back test.No = refl
-test-back (test.Refused why) = reads-refused (λ vs. choose (eqb (getD vs 0 0) 1) test.Yes test.No) test.Refused why (255 ∷ [])
+test-back (test.Refused why) = reads-refused testIn test.Refused why (255 ∷ [])
 
 pub test-one : (a b : Test) → testPaper a ≡ testPaper b → a ≡ b
-test-one = one-to-one testPaper (read (λ vs. choose (eqb (getD vs 0 0) 1) test.Yes test.No) test.Refused) test-back
+test-one = one-to-one testPaper (read testIn test.Refused) test-back
 
-count-back : (a : CountAnswer) → read (λ vs. count.Count (getD vs 0 0)) count.Refused (countPaper a) ≡ a
+abbrev countIn : List ℕ → CountAnswer
+countIn vs = count.Count (getD vs 0 0)
+
+count-back : (a : CountAnswer) → read countIn count.Refused (countPaper a) ≡ a
 unfolding read
 count-back (count.Count n) = refl
-count-back (count.Refused why) = reads-refused (λ vs. count.Count (getD vs 0 0)) count.Refused why (255 ∷ [])
+count-back (count.Refused why) = reads-refused countIn count.Refused why (255 ∷ [])
 
 pub count-one : (a b : CountAnswer) → countPaper a ≡ countPaper b → a ≡ b
-count-one = one-to-one countPaper (read (λ vs. count.Count (getD vs 0 0)) count.Refused) count-back
+count-one = one-to-one countPaper (read countIn count.Refused) count-back
 
-scalar-back : (a : ScalarAnswer) → read (λ vs. scalar.Scalar (record { 0 = getD vs 0 0 })) scalar.Refused (scalarPaper a) ≡ a
+abbrev scalarIn : List ℕ → ScalarAnswer
+scalarIn vs = scalar.Scalar (record { 0 = getD vs 0 0 })
+
+scalar-back : (a : ScalarAnswer) → read scalarIn scalar.Refused (scalarPaper a) ≡ a
 unfolding read
 scalar-back (scalar.Scalar s) = refl
-scalar-back (scalar.Refused why) = reads-refused (λ vs. scalar.Scalar (record { 0 = getD vs 0 0 })) scalar.Refused why (255 ∷ [])
+scalar-back (scalar.Refused why) = reads-refused scalarIn scalar.Refused why (255 ∷ [])
 
 pub scalar-one : (a b : ScalarAnswer) → scalarPaper a ≡ scalarPaper b → a ≡ b
-scalar-one = one-to-one scalarPaper (read (λ vs. scalar.Scalar (record { 0 = getD vs 0 0 })) scalar.Refused) scalar-back
+scalar-one = one-to-one scalarPaper (read scalarIn scalar.Refused) scalar-back
 
-constructor-back : (a : ConstructorAnswer) → read (λ vs. constructor.Constructor (record { 0 = getD vs 0 0 })) constructor.Refused (constructorPaper a) ≡ a
+abbrev constructorIn : List ℕ → ConstructorAnswer
+constructorIn vs = constructor.Constructor (record { 0 = getD vs 0 0 })
+
+constructor-back : (a : ConstructorAnswer) → read constructorIn constructor.Refused (constructorPaper a) ≡ a
 unfolding read
 constructor-back (constructor.Constructor k) = refl
-constructor-back (constructor.Refused why) = reads-refused (λ vs. constructor.Constructor (record { 0 = getD vs 0 0 })) constructor.Refused why (255 ∷ [])
+constructor-back (constructor.Refused why) = reads-refused constructorIn constructor.Refused why (255 ∷ [])
 
 pub constructor-one : (a b : ConstructorAnswer) → constructorPaper a ≡ constructorPaper b → a ≡ b
-constructor-one = one-to-one constructorPaper (read (λ vs. constructor.Constructor (record { 0 = getD vs 0 0 })) constructor.Refused) constructor-back
+constructor-one = one-to-one constructorPaper (read constructorIn constructor.Refused) constructor-back
 
-code-back : (a : CodeAnswer) → read (λ vs. code.Code (getD vs 0 0)) code.Refused (codePaper a) ≡ a
+abbrev codeIn : List ℕ → CodeAnswer
+codeIn vs = code.Code (getD vs 0 0)
+
+code-back : (a : CodeAnswer) → read codeIn code.Refused (codePaper a) ≡ a
 unfolding read
 code-back (code.Code t) = refl
-code-back (code.Refused why) = reads-refused (λ vs. code.Code (getD vs 0 0)) code.Refused why (255 ∷ [])
+code-back (code.Refused why) = reads-refused codeIn code.Refused why (255 ∷ [])
 
 pub code-one : (a b : CodeAnswer) → codePaper a ≡ codePaper b → a ≡ b
-code-one = one-to-one codePaper (read (λ vs. code.Code (getD vs 0 0)) code.Refused) code-back
+code-one = one-to-one codePaper (read codeIn code.Refused) code-back
 
-size-back : (a : SizeAnswer) → read (λ vs. size.Size (choose (eqb (getD vs 0 0) 0) zone.Scalar (choose (eqb (getD vs 0 0) 1) (zone.Vector (getD vs 1 0)) (zone.Matrix (getD vs 1 0) (getD vs 2 0))))) size.Refused (sizePaper a) ≡ a
+abbrev sizeIn : List ℕ → SizeAnswer
+sizeIn vs = size.Size (choose (eqb (getD vs 0 0) 0) zone.Scalar (choose (eqb (getD vs 0 0) 1) (zone.Vector (getD vs 1 0)) (zone.Matrix (getD vs 1 0) (getD vs 2 0))))
+
+size-back : (a : SizeAnswer) → read sizeIn size.Refused (sizePaper a) ≡ a
 unfolding read
 size-back (size.Size zone.Scalar) = refl
 size-back (size.Size (zone.Vector n)) = refl
 size-back (size.Size (zone.Matrix c r)) = refl
-size-back (size.Refused why) = reads-refused (λ vs. size.Size (choose (eqb (getD vs 0 0) 0) zone.Scalar (choose (eqb (getD vs 0 0) 1) (zone.Vector (getD vs 1 0)) (zone.Matrix (getD vs 1 0) (getD vs 2 0))))) size.Refused why (255 ∷ 255 ∷ 255 ∷ [])
+size-back (size.Refused why) = reads-refused sizeIn size.Refused why (255 ∷ 255 ∷ 255 ∷ [])
 
 pub size-one : (a b : SizeAnswer) → sizePaper a ≡ sizePaper b → a ≡ b
-size-one = one-to-one sizePaper (read (λ vs. size.Size (choose (eqb (getD vs 0 0) 0) zone.Scalar (choose (eqb (getD vs 0 0) 1) (zone.Vector (getD vs 1 0)) (zone.Matrix (getD vs 1 0) (getD vs 2 0))))) size.Refused) size-back
+size-one = one-to-one sizePaper (read sizeIn size.Refused) size-back
 
-parts-back : (a : PartsAnswer) → read (λ vs. parts.Parts (choose (eqb (getD vs 0 0) 0) (part.Value (record { 0 = getD vs 1 0 }) (record { 0 = getD vs 2 0 })) (choose (eqb (getD vs 0 0) 1) part.Other (choose (eqb (getD vs 0 0) 2) (part.Modf (record { 0 = getD vs 1 0 }) (record { 0 = getD vs 2 0 })) (part.Frexp (record { 0 = getD vs 1 0 }) (record { 0 = getD vs 2 0 })))))) parts.Refused (partsPaper a) ≡ a
+abbrev partsIn : List ℕ → PartsAnswer
+partsIn vs = parts.Parts (choose (eqb (getD vs 0 0) 0) (part.Value (record { 0 = getD vs 1 0 }) (record { 0 = getD vs 2 0 })) (choose (eqb (getD vs 0 0) 1) part.Other (choose (eqb (getD vs 0 0) 2) (part.Modf (record { 0 = getD vs 1 0 }) (record { 0 = getD vs 2 0 })) (part.Frexp (record { 0 = getD vs 1 0 }) (record { 0 = getD vs 2 0 })))))
+
+parts-back : (a : PartsAnswer) → read partsIn parts.Refused (partsPaper a) ≡ a
 unfolding read
 parts-back (parts.Parts (part.Value k s)) = refl
 parts-back (parts.Parts part.Other) = refl
 parts-back (parts.Parts (part.Modf k s)) = refl
 parts-back (parts.Parts (part.Frexp k s)) = refl
-parts-back (parts.Refused why) = reads-refused (λ vs. parts.Parts (choose (eqb (getD vs 0 0) 0) (part.Value (record { 0 = getD vs 1 0 }) (record { 0 = getD vs 2 0 })) (choose (eqb (getD vs 0 0) 1) part.Other (choose (eqb (getD vs 0 0) 2) (part.Modf (record { 0 = getD vs 1 0 }) (record { 0 = getD vs 2 0 })) (part.Frexp (record { 0 = getD vs 1 0 }) (record { 0 = getD vs 2 0 })))))) parts.Refused why (255 ∷ 255 ∷ 255 ∷ [])
+parts-back (parts.Refused why) = reads-refused partsIn parts.Refused why (255 ∷ 255 ∷ 255 ∷ [])
 
 pub parts-one : (a b : PartsAnswer) → partsPaper a ≡ partsPaper b → a ≡ b
-parts-one = one-to-one partsPaper (read (λ vs. parts.Parts (choose (eqb (getD vs 0 0) 0) (part.Value (record { 0 = getD vs 1 0 }) (record { 0 = getD vs 2 0 })) (choose (eqb (getD vs 0 0) 1) part.Other (choose (eqb (getD vs 0 0) 2) (part.Modf (record { 0 = getD vs 1 0 }) (record { 0 = getD vs 2 0 })) (part.Frexp (record { 0 = getD vs 1 0 }) (record { 0 = getD vs 2 0 })))))) parts.Refused) parts-back
+parts-one = one-to-one partsPaper (read partsIn parts.Refused) parts-back
 
 -- ---- a scalar or none: of the answers that the promises permit, whose scalars are known
 
@@ -182,25 +210,57 @@ LeafKnown (leaf.Scalar s) = s .0 < 12
 LeafKnown leaf.Nothing = Unit
 LeafKnown (leaf.Refused why) = Unit
 
-leaf-back : (a : LeafScalar) → LeafKnown a → read (λ vs. choose (eqb (getD vs 0 0) 255) leaf.Nothing (leaf.Scalar (record { 0 = getD vs 0 0 }))) leaf.Refused (leafPaper a) ≡ a
+abbrev leafIn : List ℕ → LeafScalar
+leafIn vs = choose (eqb (getD vs 0 0) 255) leaf.Nothing (leaf.Scalar (record { 0 = getD vs 0 0 }))
+
+leaf-back : (a : LeafScalar) → LeafKnown a → read leafIn leaf.Refused (leafPaper a) ≡ a
 unfolding read LeafKnown
 leaf-back (leaf.Scalar s) k = ap (λ (b : Bool). choose b leaf.Nothing (leaf.Scalar s)) (ne-eqb (s .0) 255 (λ e. absurd (omega arith)))
 leaf-back leaf.Nothing k = refl
-leaf-back (leaf.Refused why) k = reads-refused (λ vs. choose (eqb (getD vs 0 0) 255) leaf.Nothing (leaf.Scalar (record { 0 = getD vs 0 0 }))) leaf.Refused why (255 ∷ [])
+leaf-back (leaf.Refused why) k = reads-refused leafIn leaf.Refused why (255 ∷ [])
 
 pub leaf-one : (a b : LeafScalar) → LeafKnown a → LeafKnown b → leafPaper a ≡ leafPaper b → a ≡ b
-leaf-one a b j k e = sym (leaf-back a j) ∙ ap (read (λ vs. choose (eqb (getD vs 0 0) 255) leaf.Nothing (leaf.Scalar (record { 0 = getD vs 0 0 }))) leaf.Refused) e ∙ leaf-back b k
+leaf-one a b j k e = sym (leaf-back a j) ∙ ap (read leafIn leaf.Refused) e ∙ leaf-back b k
 
 pub CombinationKnown : Combination → Type 0
 CombinationKnown (combined.Scalar s) = s .0 < 12
 CombinationKnown combined.Nothing = Unit
 CombinationKnown (combined.Refused why) = Unit
 
-combination-back : (a : Combination) → CombinationKnown a → read (λ vs. choose (eqb (getD vs 0 0) 255) combined.Nothing (combined.Scalar (record { 0 = getD vs 0 0 }))) combined.Refused (combinationPaper a) ≡ a
+abbrev combinationIn : List ℕ → Combination
+combinationIn vs = choose (eqb (getD vs 0 0) 255) combined.Nothing (combined.Scalar (record { 0 = getD vs 0 0 }))
+
+combination-back : (a : Combination) → CombinationKnown a → read combinationIn combined.Refused (combinationPaper a) ≡ a
 unfolding read CombinationKnown
 combination-back (combined.Scalar s) k = ap (λ (b : Bool). choose b combined.Nothing (combined.Scalar s)) (ne-eqb (s .0) 255 (λ e. absurd (omega arith)))
 combination-back combined.Nothing k = refl
-combination-back (combined.Refused why) k = reads-refused (λ vs. choose (eqb (getD vs 0 0) 255) combined.Nothing (combined.Scalar (record { 0 = getD vs 0 0 }))) combined.Refused why (255 ∷ [])
+combination-back (combined.Refused why) k = reads-refused combinationIn combined.Refused why (255 ∷ [])
 
 pub combination-one : (a b : Combination) → CombinationKnown a → CombinationKnown b → combinationPaper a ≡ combinationPaper b → a ≡ b
-combination-one a b j k e = sym (combination-back a j) ∙ ap (read (λ vs. choose (eqb (getD vs 0 0) 255) combined.Nothing (combined.Scalar (record { 0 = getD vs 0 0 }))) combined.Refused) e ∙ combination-back b k
+combination-one a b j k e = sym (combination-back a j) ∙ ap (read combinationIn combined.Refused) e ∙ combination-back b k
+
+-- the promises permit no other answers
+
+pub leaf-permitted : (t : ℕ) → LeafKnown (leafScalar t)
+unfolding leafScalar LeafKnown
+leaf-permitted t = go (value? t) (known? t)
+  where
+    go : (v k : Bool) → LeafKnown (choose v (leaf.Scalar (record { 0 = scalarPart t })) (choose k leaf.Nothing (leaf.Refused (Unknown 0))))
+    go true k = omega arith
+    go false true = tt
+    go false false = tt
+
+pub combination-permitted : (a b : ℕ) → CombinationKnown (combineOf a b)
+unfolding combineOf CombinationKnown
+combination-permitted a b = go (ltb a 12) (ltb b 12) refl refl
+  where
+    of-scalar : (a < 12) → (b < 12) → (x : Bool) → eqb (combination a b) none ≡ x
+        → CombinationKnown (choose x combined.Nothing (combined.Scalar (record { 0 = combination a b })))
+    of-scalar h k true e = tt
+    of-scalar h k false e = combination-known a b h k (eqb-false _ _ e)
+
+    go : (x y : Bool) → ltb a 12 ≡ x → ltb b 12 ≡ y
+        → CombinationKnown (choose x (choose y (combinedTo (combination a b)) (combined.Refused (Unknown 1))) (combined.Refused (Unknown 0)))
+    go false y e f = tt
+    go true false e f = tt
+    go true true e f = of-scalar (ltb-true a 12 e) (ltb-true b 12 f) (eqb (combination a b) none) refl

@@ -1,12 +1,12 @@
 -- Scalar sets: the preferred scalar is the lowest bit, and what a scalar converts to as a mask. Assumes nothing.
-use mathlib.Core.Path.{_≡_, refl, sym, ap, _∙_}
+use mathlib.Core.Path.{_≡_, refl}
 use mathlib.Core.Bool.{Bool, true, false, not}
-use Prim.Native.Nat.{ℕ, _+_, _*_, _/_, _%_, _^_, _≤_, _<_}
+use Prim.Native.Nat.{ℕ, _*_, _/_, _%_, _^_, _≤_, _<_}
 use native.Mathlib.Omega.{arith}
 use lib.Count.{trailingZeros}
-use lib.Dec.{T, eqb, eqb→eq, leb, ltb, lit≤}
-use borrow.Author.Tests.{lt-ltb, le-ltb, lt-leb, ltb-true, ltb-false}
-use Rattle.domain.specs.Mask.{choose, both, either, sift, bits}
+use lib.Dec.{eqb, eqb→eq, leb, ltb, lit≤}
+use borrow.Author.Tests.{lt-ltb, lt-leb, ltb-true}
+use Rattle.domain.specs.Mask.{both, either}
 use Rattle.domain.specs.Domain.{scalars, converts}
 use Rattle.domain.specs.Scalar.{mostGeneral, singletonOf, convertibleFrom}
 use Rattle.domain.specs.declared.scalar_set.ScalarAnswer.the-variants.{Scalar}

@@ -1,9 +1,9 @@
 -- Laws of tests on masks, over any test: testing the members filters them, in order; two tests commute; a test done twice is done
 -- once; two tests one after the other are the test that asks both. Assumes nothing.
-use mathlib.Core.Path.{_≡_, refl, sym, ap, ap₂, _∙_, subst}
+use mathlib.Core.Path.{_≡_, refl, sym, ap, ap₂, _∙_}
 use mathlib.Core.Bool.{Bool, true, false}
 use mathlib.Core.List.{List, [], _∷_}
-use Prim.Native.Nat.{ℕ, zero, suc, _+_, _*_, _/_, _%_}
+use Prim.Native.Nat.{ℕ, _+_, _*_, _/_, _%_}
 use native.Mathlib.Omega.{arith}
 use lib.Dec.{eqb}
 use Rattle.domain.specs.Mask.{consIf, odd, select, filter, both, digit, sift}

@@ -1,4 +1,4 @@
--- A rule of a table, proved at all of its entries by one test that antt computes, one entry after the other.
+-- A rule of a table, proved at all of its entries by one test, computed one entry after the other.
 -- Assumes nothing.
 use mathlib.Core.Path.{_≡_, refl, ap, _∙_, subst, sym}
 use mathlib.Core.Bool.{Bool, true, false, not}
@@ -7,10 +7,7 @@ use Prim.Native.Nat.{ℕ, zero, suc, _+_, _<_}
 use native.Mathlib.Nat.{add-zero, zero-add, add-suc, suc-add, le-of-suc-le-suc, not-suc-le-zero}
 use lib.Dec.{T}
 use lib.ListN.{length, getD}
-
-abbrev pub both : Bool → Bool → Bool
-both true b = b
-both false b = false
+use Rattle.domain.specs.Mask.{both}
 
 both-left : (a b : Bool) → T (both a b) → T a
 both-left true b t = tt

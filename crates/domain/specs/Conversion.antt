@@ -1,5 +1,4 @@
 -- 'Consensus', and the combination of two scalars, each with its refusals.
-use mathlib.Core.Bool.{Bool}
 use mathlib.Core.List.{List, [], _∷_}
 use Prim.Native.Nat.{ℕ, suc, _+_}
 use lib.Dec.{eqb, ltb}

@@ -1,3 +1,4 @@
+-- What a reader must believe of this crate.
 pub mod Mask
 pub mod Domain
 pub mod Refusal

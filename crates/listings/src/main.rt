@@ -1,10 +1,10 @@
 // Prints every rule of every function: function, index, number of arguments, the arguments, the result. The file `stdout` is the
 // crate's own listing, so a run compares the two to the byte.
 
-use overloads::FUNCTION_COUNT;
-use overloads::Rule;
-use overloads::RuleAnswer;
-use overloads::rule_at;
+use functions::FUNCTION_COUNT;
+use functions::rule_at;
+use rules::Rule;
+use rules::RuleAnswer;
 
 fn main() {
     let mut function: u8 = 0;

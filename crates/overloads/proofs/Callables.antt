@@ -1,7 +1,7 @@
 -- Tests that show, by computing, what calls and their theorem ask of a listing: that a Regular set is callable, and that the rules of a
 -- listing have one length. Those of a Regular set have its arity. Assumes nothing.
 use mathlib.Core.Path.{_≡_, refl, sym, ap, _∙_}
-use mathlib.Core.Bool.{Bool, true, false, not}
+use mathlib.Core.Bool.{Bool, true, not}
 use mathlib.Core.List.{List, [], _∷_, map}
 use mathlib.Core.Option.{some}
 use Prim.Native.Nat.{ℕ, zero, suc, _^_, max}
@@ -10,12 +10,12 @@ use lib.Dec.{eqb, leb, ltb}
 use lib.ListN.{length, getElem?, length-replicate}
 use borrow.Author.Tests.{eqb-true, eq-eqb, leb-true, ltb-true, not-true}
 use Rattle.domain.specs.Mask.{both, every}
-use Rattle.overloads.specs.Signature.{Signature}
-use Rattle.overloads.specs.Choice.{longest}
+use Rattle.rules.specs.Signature.{Signature}
+use Rattle.rules.specs.Verdict.{longest}
 use Rattle.overloads.specs.Taking.{OneLength}
-use Rattle.overloads.specs.Regular.{codesOf, signatureFor, regularRules, emptySet?, allConclude}
+use Rattle.rules.specs.Regular.{codesOf, signatureFor, regularRules, emptySet?, allConclude}
 use Rattle.overloads.specs.Call.{Callable}
-use Rattle.overloads.specs.declared.regular.Regular.{Regular}
+use Rattle.rules.specs.declared.regular.Regular.{Regular}
 use Rattle.domain.proofs.Filters.{both-left, both-right, both-true}
 
 -- ---- a Regular set

@@ -7,12 +7,12 @@ use native.Mathlib.Omega.{arith}
 use lib.ListN.{length, replicate, length-map}
 use lib.Seq.{take-at}
 use Rattle.domain.specs.Mask.{select, padded}
-use Rattle.overloads.specs.Signature.{Signature}
+use Rattle.rules.specs.Signature.{Signature}
 use Rattle.overloads.specs.Choice.{number}
-use Rattle.overloads.specs.Rule.{blankRule, signatureOf, ruleOf}
+use Rattle.rules.specs.Rule.{blankRule, signatureOf, ruleOf}
 use Rattle.overloads.specs.List.{held, signatures, listing, entries, cleanList, Valid}
 use Rattle.overloads.specs.declared.list.List.{List}
-use Rattle.overloads.proofs.Records.{records-say}
+use Rattle.rules.proofs.Records.{records-say}
 use Rattle.overloads.proofs.Lists.{signatures-length}
 
 module _ (l : List) (long : length (l .rules) ≡ 63) (few : l .len ≤ 63) where

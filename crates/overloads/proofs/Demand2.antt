@@ -18,9 +18,10 @@ use native.Mathlib.Omega.{arith}
 use lib.Dec.{ltb}
 use lib.ListN.{length, getElem?}
 use borrow.Author.Tests.{ltb-true, ltb-false}
-use Rattle.overloads.specs.Signature.{Signature}
+use Rattle.rules.specs.Signature.{Signature}
 use Rattle.domain.specs.Mask.{select}
-use Rattle.overloads.specs.Choice.{number, keep, first, longest, Choice, chosen, wrongCount, noneAfter, noneConcrete, resolve}
+use Rattle.overloads.specs.Choice.{number, keep, first, Choice, chosen, wrongCount, noneAfter, noneConcrete, resolve}
+use Rattle.rules.specs.Verdict.{longest}
 use Rattle.overloads.specs.Taking.{Takes, Taken, NoRule, Best, OneLength, LeftAfter, Emptied, Says}
 use Rattle.overloads.specs.Call.{answered, survivorsOf}
 use Rattle.overloads.specs.declared.call.CallAnswer.the-variants as call

@@ -1,30 +1,32 @@
 -- A Regular set expanded: from the listing of its rules to the List of them, or the refusal. Assumes nothing.
-use mathlib.Core.Path.{_≡_, refl, sym, ap, ap₂, _∙_, subst}
+use mathlib.Core.Path.{_≡_, sym, ap, ap₂, _∙_}
 use mathlib.Core.Bool.{Bool, true, false}
 use mathlib.Core.List as L
-use mathlib.Core.List.{[], _∷_, _++_, map, append-assoc}
+use mathlib.Core.List.{_∷_, _++_, map, append-assoc}
 use Prim.Native.Nat.{ℕ, zero, suc, _+_, _-_, _^_, _≤_, _<_}
-use native.Mathlib.Nat.{suc-sub-suc, sub-zero, zero-sub}
+use native.Mathlib.Nat.{suc-sub-suc, sub-zero}
 use native.Mathlib.Omega.{arith}
 use lib.Dec.{leb}
 use lib.ListN.{length, take, replicate, length-map, length-replicate, length-append}
 use lib.Seq.{take-at}
 use borrow.Author.Tests.{le-leb, lt-leb}
 use Rattle.domain.specs.Mask.{choose, padded}
-use Rattle.overloads.specs.Rule.{blankRule, ruleOf}
-use Rattle.overloads.specs.Listing.{acceptedListing, refusedListing}
-use Rattle.overloads.specs.List.{onVerdict, acceptedList, refusedList}
-use Rattle.overloads.specs.Regular.{codesOf, regularRules, regularVerdict, allConclude, listedRules}
+use Rattle.rules.specs.Rule.{blankRule, ruleOf}
+use Rattle.rules.specs.Listing.{acceptedListing, refusedListing}
+use Rattle.rules.specs.Verdict.{onVerdict}
+use Rattle.overloads.specs.List.{acceptedList, refusedList}
+use Rattle.rules.specs.Regular.{codesOf, regularRules, regularVerdict, allConclude, listedRules, regularListing}
 use Rattle.overloads.specs.Expansion.{listOf, expanded}
 use Rattle.domain.specs.declared.answer.CountAnswer.the-variants as count
+use Rattle.domain.specs.declared.answer.Verdict.{Verdict}
 use Rattle.domain.specs.declared.answer.Verdict.the-variants.{Accepted}
 use Rattle.overloads.specs.declared.list.List.{List}
-use Rattle.overloads.specs.declared.listing.Listing.{Listing}
+use Rattle.rules.specs.declared.listing.Listing.{Listing}
 use Rattle.domain.specs.declared.refusal.Refusal.{Refusal}
 use Rattle.domain.specs.declared.refusal.Refusal.the-variants.{TooMany, NoConclusion}
-use Rattle.overloads.specs.declared.regular.Regular.{Regular}
-use Rattle.overloads.specs.declared.rule.Rule.{Rule}
-use Rattle.overloads.proofs.Listings.{rules-count}
+use Rattle.rules.specs.declared.regular.Regular.{Regular}
+use Rattle.rules.specs.declared.rule.Rule.{Rule}
+use Rattle.rules.proofs.Listings.{rules-count}
 
 -- fewer blanks behind the same rules
 module _ {A : Type 0} where
@@ -47,7 +49,11 @@ module _ (r : Regular) (ok : regularVerdict r ≡ Accepted) where
   unfolding expanded
   expand-many {n} e h = rw ok (sym (ap (λ (b : Bool). choose b (choose (allConclude r) (acceptedList (listOf (regularRules r))) (refusedList NoConclusion)) (refusedList TooMany)) (lt-leb (length (regularRules r)) 63 (omega (arith, rules-count r)))))
 
-  module _ {n : ℕ} (e : n ≡ length (codesOf r)) (h : n ≤ 63) (l : Listing) (q : l ≡ listedRules r) where
+  module _ {n : ℕ} (e : n ≡ length (codesOf r)) (h : n ≤ 63) (l : Listing) (asked : l ≡ regularListing r) where
+    q : l ≡ listedRules r
+    unfolding regularListing
+    q = asked ∙ ap (λ (v : Verdict). onVerdict v (listedRules r) refusedListing) ok
+
     few : leb (length (regularRules r)) 63 ≡ true
     few = le-leb (length (regularRules r)) 63 (omega (arith, rules-count r))
 

@@ -9,7 +9,7 @@ use Prim.Native.Nat.{ℕ, zero, suc, _+_, _<_}
 use native.Mathlib.Omega.{arith}
 use lib.ListN.{getElem?}
 use Rattle.domain.specs.Mask.{both, consIf, filter}
-use Rattle.overloads.specs.Signature.{Signature}
+use Rattle.rules.specs.Signature.{Signature}
 use Rattle.overloads.specs.Choice.{Entry, number, keep, chosen, first}
 use Rattle.overloads.proofs.Entries.{keep-filter}
 use Rattle.domain.proofs.Filters.{filter-both}

@@ -6,23 +6,26 @@ use mathlib.Core.List.{List}
 use Prim.Native.Nat.{ℕ, _≤_, _<_}
 use native.Mathlib.Omega.{arith}
 use lib.ListN.{length}
-use Rattle.domain.specs.Mask.{bits}
-use Rattle.overloads.specs.Signature.{Signature}
-use Rattle.overloads.specs.List.{signatures}
-use Rattle.overloads.specs.Regular.{regularRules, codesOf, allConclude, concludedOf, emptySet?}
+use Rattle.domain.specs.Mask.{every, bits}
+use Rattle.rules.specs.Signature.{Signature}
+use Rattle.rules.specs.Rule.{short?}
+use Rattle.overloads.specs.List.{signatures, listing, Valid}
+use Rattle.rules.specs.Regular.{regularRules, codesOf, allConclude, concludedOf, emptySet?}
 use Rattle.domain.specs.TypeCode.{predeclaredCode}
-use Rattle.overloads.specs.Sequences.{floatScalars, concreteFloatScalars, concreteIntScalars, vectorSizes, vector, matrix, scalarOrVecn}
-use Rattle.overloads.specs.Functions.{functionCount, functionSets, functionSetOf, listedRules, rulesIn, listingOf}
+use Rattle.functions.specs.Sequences.{floatScalars, concreteFloatScalars, concreteIntScalars, vectorSizes, vector, matrix, scalarOrVecn}
+use Rattle.functions.specs.Functions.{functionCount, functionSets, functionSetOf, listedRules, rulesIn, listingOf}
 use Rattle.overloads.specs.Expansion.{listOf}
 use Rattle.overloads.specs.Call.{Callable, Full}
 use Rattle.overloads.specs.declared.list.List as lists
-use Rattle.overloads.specs.declared.mathfunction.FunctionSet.{FunctionSet}
-use Rattle.overloads.specs.declared.mathfunction.FunctionSet.the-variants as set
-use Rattle.overloads.specs.declared.mathfunction.Listed.{Listed}
-use Rattle.overloads.specs.declared.mathfunction.Listed.the-variants.{Ldexp, Outer, Refract, Mix, Transpose, ExtractBits, InsertBits}
-use Rattle.overloads.specs.declared.regular.Regular.{Regular}
+use Rattle.functions.specs.declared.mathfunction.FunctionSet.{FunctionSet}
+use Rattle.functions.specs.declared.mathfunction.FunctionSet.the-variants as set
+use Rattle.functions.specs.declared.mathfunction.Listed.{Listed}
+use Rattle.functions.specs.declared.mathfunction.Listed.the-variants.{Ldexp, Outer, Refract, Mix, Transpose, ExtractBits, InsertBits}
+use Rattle.rules.specs.declared.regular.Regular.{Regular}
 use Rattle.overloads.proofs.Callables.{callable?, callable-of}
-use Rattle.overloads.proofs.Database.{each-number, few-rules, some-rules, listed-valid, listed-signatures}
+use Rattle.functions.proofs.Places.{few-listed}
+use Rattle.functions.proofs.Database.{each-number, few-rules, some-rules}
+use Rattle.overloads.proofs.Expansions.{signatures-of, listing-of, valid-of}
 
 -- ---- Regular sets
 
@@ -42,7 +45,26 @@ regular-listing f r e = ap rulesIn e
 pub regular-few : (f : ℕ) (r : Regular) → functionSetOf f ≡ set.Regular r → length (regularRules r) ≤ 63
 regular-few f r e = subst (λ (rs : List Signature). length rs ≤ 63) (regular-listing f r e) (few-rules f)
 
--- ---- Lists
+-- ---- Lists: each is a List that was tested, and its rules, all of them members, are those of its function
+
+short-listed : (l : Listed) → every short? (listedRules l) ≡ true
+unfolding listedRules floatScalars concreteFloatScalars concreteIntScalars vectorSizes scalarOrVecn
+short-listed Ldexp = refl
+short-listed Outer = refl
+short-listed Refract = refl
+short-listed Mix = refl
+short-listed Transpose = refl
+short-listed ExtractBits = refl
+short-listed InsertBits = refl
+
+pub listed-valid : (l : Listed) → Valid (listOf (listedRules l))
+listed-valid l = valid-of (listedRules l) (short-listed l) (few-listed l)
+
+pub listed-signatures : (l : Listed) → signatures (listOf (listedRules l)) ≡ listedRules l
+listed-signatures l = signatures-of (listedRules l) (short-listed l)
+
+pub listed-listing : (l : Listed) → listing (listOf (listedRules l)) ≡ listedRules l
+listed-listing l = listing-of (listedRules l) (short-listed l)
 
 some-listed : (l : Listed) → 0 < length (listedRules l)
 unfolding listedRules floatScalars concreteFloatScalars concreteIntScalars vectorSizes vector matrix scalarOrVecn

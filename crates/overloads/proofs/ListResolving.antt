@@ -11,7 +11,7 @@ use lib.Pow.{pow-mono}
 use lib.Seq.{take-all}
 use borrow.Author.Tests.{eqb-true, eqb-false}
 use Rattle.domain.specs.Mask.{choose, consIf, odd, select, countFrom, bits, maskOf}
-use Rattle.overloads.specs.Signature.{Signature}
+use Rattle.rules.specs.Signature.{Signature}
 use Rattle.overloads.specs.Choice.{Entry, number, chosen, first}
 use Rattle.overloads.specs.List.{signatures, listing, entries, Valid}
 use Rattle.overloads.specs.Call.{membersOf, maskAnswer, Full}

@@ -1,26 +1,19 @@
 -- The List of given rules from the parts that a loop leaves: the array that holds them, their number and a full mask.
 -- Assumes nothing.
-use mathlib.Core.Path.{_≡_, refl, ap, ap₂, _∙_}
-use mathlib.Core.Bool.{Bool, true}
+use mathlib.Core.Path.{_≡_, ap, ap₂, _∙_}
+use mathlib.Core.Bool.{Bool}
 use mathlib.Core.List as L
-use mathlib.Core.List.{[], _∷_, map}
-use Prim.Native.Nat.{ℕ, suc, _+_, _-_, _*_, _/_, _%_, _^_, _≤_}
-use native.Mathlib.Nat.{pow-suc}
-use native.Mathlib.Omega.{arith}
-use lib.Dec.{eqb, leb}
-use lib.ListN.{length, replicate, length-map}
-use lib.Pow.{pow-pos}
-use lib.Seq.{take-at}
-use borrow.Author.Tests.{le-leb, leb-true}
-use Rattle.domain.specs.Mask.{choose, consIf, every, select, padded}
-use Rattle.overloads.specs.Signature.{Signature}
-use Rattle.overloads.specs.Rule.{mostArguments, blankRule, signatureOf, ruleOf}
-use Rattle.overloads.specs.List.{signatures, listing, cleanList, Valid}
+use mathlib.Core.List.{map}
+use Prim.Native.Nat.{ℕ, _-_, _^_, _≤_}
+use lib.Dec.{leb}
+use lib.ListN.{length}
+use borrow.Author.Tests.{le-leb}
+use Rattle.domain.specs.Mask.{choose, padded}
+use Rattle.rules.specs.Signature.{Signature}
+use Rattle.rules.specs.Rule.{blankRule, ruleOf}
 use Rattle.overloads.specs.Expansion.{listOf}
 use Rattle.overloads.specs.declared.list.List.{List}
-use Rattle.overloads.specs.declared.rule.Rule.{Rule}
-use Rattle.overloads.proofs.Records.{record-says}
-use Rattle.overloads.proofs.Prefixes.{both-true}
+use Rattle.rules.specs.declared.rule.Rule.{Rule}
 
 module _ (rs : L.List Signature) where
   -- an array that holds the rules, their number and a full mask are their List

@@ -7,7 +7,7 @@ use Prim.Native.Nat.{ℕ, zero, suc, _+_, _<_}
 use native.Mathlib.Omega.{arith}
 use lib.ListN.{length, take}
 use Rattle.domain.specs.Mask.{both}
-use Rattle.overloads.specs.Signature.{Signature, takes}
+use Rattle.rules.specs.Signature.{Signature, takes}
 use Rattle.overloads.specs.Choice.{Entry, keep, Narrowed, left, emptied, unlessEmpty, narrow, chosen, first}
 use Rattle.overloads.proofs.Firsts.{keep-keep, keep-every}
 

@@ -12,9 +12,9 @@ use lib.ListN.{length}
 use lib.Pow.{pow-pos}
 use borrow.Author.Tests.{ltb-true}
 use Rattle.domain.specs.Mask.{choose, both, consIf, odd, filter, every, select, countFrom, upTo, bits}
-use Rattle.overloads.specs.Signature.{Signature}
+use Rattle.rules.specs.Signature.{Signature}
 use Rattle.overloads.specs.Choice.{number, keep, chosen, first}
-use Rattle.overloads.specs.Regular.{pairs}
+use Rattle.rules.specs.Regular.{pairs}
 use Rattle.overloads.specs.Call.{rank}
 use Rattle.domain.proofs.Masks.{select-mod, bit-is}
 use Rattle.domain.proofs.Bits.{bits-count, bits-length, upTo-length}

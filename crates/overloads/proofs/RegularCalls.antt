@@ -7,14 +7,15 @@ use Prim.Native.Nat.{ℕ, _+_, _≤_, _<_, zero-le}
 use native.Mathlib.Omega.{arith}
 use lib.ListN.{length, getD, drop}
 use Rattle.domain.specs.Mask.{bits}
-use Rattle.overloads.specs.Choice.{Entry, number, longest, Narrowed, left, emptied, narrow, wrongCount, afterOperands, resolve}
-use Rattle.overloads.specs.Regular.{Known, signatureFor, regularRules, emptySet?, narrowed, concreteSet}
+use Rattle.overloads.specs.Choice.{Entry, number, Narrowed, left, emptied, narrow, wrongCount, afterOperands, resolve}
+use Rattle.rules.specs.Verdict.{longest}
+use Rattle.rules.specs.Regular.{Known, signatureFor, regularRules, emptySet?, narrowed, concreteSet}
 use Rattle.overloads.specs.Call.{answered, Callable, preferredIn}
 use Rattle.overloads.specs.declared.call.CallAnswer.the-variants as call
 use Rattle.domain.specs.declared.refusal.Refusal.the-variants.{WrongCount}
-use Rattle.overloads.specs.declared.regular.Regular.{Regular}
-use Rattle.overloads.proofs.Regulars.{codes-first, longest-arity, lowestCode}
-use Rattle.overloads.proofs.RegularSteps.{narrowed-known, concrete-known}
+use Rattle.rules.specs.declared.regular.Regular.{Regular}
+use Rattle.rules.proofs.Regulars.{codes-first, longest-arity, lowestCode}
+use Rattle.rules.proofs.RegularSteps.{narrowed-known, concrete-known}
 use Rattle.overloads.proofs.Resolving.{narrow-out, narrow-on, narrow-end, count-wrong, count-right}
 use Rattle.overloads.proofs.RegularResolving.{Holds, holds-all, holds-argument, holds-concrete, holds-preferred, holds-none, holds-some}
 

@@ -12,15 +12,15 @@ use lib.ListN.{length}
 use borrow.Author.Tests.{eqb-true}
 use Rattle.domain.specs.Mask.{both, either, consIf, filter, every, bits}
 use Rattle.domain.specs.Domain.{scalars, constructors, abstract?}
-use Rattle.overloads.specs.Signature.{Signature, takes, concrete}
+use Rattle.rules.specs.Signature.{Signature, takes, concrete}
 use Rattle.overloads.specs.Choice.{Entry, number, keep, chosen, first}
-use Rattle.overloads.specs.Rule.{ruleOf}
-use Rattle.overloads.specs.Regular.{Known, pairs, codesOf, signatureFor, regularRules, emptySet?, narrowed, concreteSet, concludes, allConclude, concludedOf, concluded?, ruleFrom, ruleFor}
+use Rattle.rules.specs.Rule.{ruleOf}
+use Rattle.rules.specs.Regular.{Known, pairs, codesOf, signatureFor, regularRules, emptySet?, narrowed, concreteSet, concludes, allConclude, concludedOf, concluded?, ruleFrom, ruleFor, regularRule}
 use Rattle.overloads.specs.Call.{answered, Callable, placeIn, placed, preferredIn}
 use Rattle.overloads.specs.declared.call.CallAnswer.the-variants as call
 use Rattle.domain.specs.declared.refusal.Refusal.the-variants.{EmptySet}
-use Rattle.overloads.specs.declared.regular.Regular.{Regular}
-use Rattle.overloads.specs.declared.rule.RuleAnswer.the-variants as rule
+use Rattle.rules.specs.declared.regular.Regular.{Regular}
+use Rattle.rules.specs.declared.rule.RuleAnswer.the-variants as rule
 use Rattle.domain.specs.declared.type_code.CodeAnswer.{CodeAnswer}
 use Rattle.domain.specs.declared.type_code.CodeAnswer.the-variants as code
 use Rattle.domain.proofs.Bits.{bits-first, bits-none}
@@ -28,9 +28,9 @@ use Rattle.domain.proofs.Filters.{both-left, every-filter, filter-both, filter-
 use Rattle.overloads.proofs.Firsts.{keep-keep, keep-every}
 use Rattle.overloads.proofs.Narrowing.{Some}
 use Rattle.overloads.proofs.Positions.{rank-first, pairs-first}
-use Rattle.overloads.proofs.RegularCodes.{shapes, numbers, reaches-pair, concrete-pair, narrowed-constructors, narrowed-scalars, codes-filter, every-select, bits-meet}
-use Rattle.overloads.proofs.RegularSteps.{takes-each, concrete-each}
-use Rattle.overloads.proofs.Regulars.{some-first, pairs-none, codes-none}
+use Rattle.rules.proofs.RegularCodes.{shapes, numbers, reaches-pair, concrete-pair, narrowed-constructors, narrowed-scalars, codes-filter, every-select, bits-meet}
+use Rattle.rules.proofs.RegularSteps.{takes-each, concrete-each}
+use Rattle.rules.proofs.Regulars.{some-first, pairs-none, codes-none, known-rule, lowest-known}
 
 -- the entries left are those that pass a test which asks the constructor and the scalar apart, and the masks hold what passes either
 pub record Holds (set left : Regular) (s : List Entry) : Type 0 where
@@ -191,10 +191,14 @@ preferred-none set left e = go (eqb (left .constructors .0) 0) (eqb (left .scala
     go false true a b f = sym (ap (preferredIn set (bits 13 (left .constructors .0))) (ap (bits 12) (eqb-true _ _ b) ∙ bits-none 12) ∙ either-way (bits 13 (left .constructors .0)))
     go false false a b f = let z : _≡_ {A = ℕ} 0 1 = cc in absurd (omega arith)
 
-pub preferred-some : (set left : Regular) → Known left → emptySet? left ≡ false
+pub preferred-some : (set left : Regular) → Known set → Known left → emptySet? left ≡ false
     → placed (placeIn set (trailingZeros 16 (left .constructors .0)) (trailingZeros 16 (left .scalars .0)))
-    (ruleFor set (trailingZeros 16 (left .constructors .0) * 12 + trailingZeros 16 (left .scalars .0)))
+    (regularRule (trailingZeros 16 (left .constructors .0) * 12 + trailingZeros 16 (left .scalars .0)) set)
     ≡ preferredIn set (bits 13 (left .constructors .0)) (bits 12 (left .scalars .0))
-preferred-some set left known e =
+preferred-some set left whole known e =
     let p = some-first left e in
-    sym (ap₂ (preferredIn set) (bits-first 16 13 (left .constructors .0) (lit≤ tt) (p .0) (known .constructors)) (bits-first 16 12 (left .scalars .0) (lit≤ tt) (p .1) (known .scalars)))
+    let l = lowest-known left known e in
+    let k = trailingZeros 16 (left .constructors .0) in
+    let s = trailingZeros 16 (left .scalars .0) in
+    ap (placed (placeIn set k s)) (known-rule set (k * 12 + s) whole (omega (arith, l .0, l .1)))
+    ∙ sym (ap₂ (preferredIn set) (bits-first 16 13 (left .constructors .0) (lit≤ tt) (p .0) (known .constructors)) (bits-first 16 12 (left .scalars .0) (lit≤ tt) (p .1) (known .scalars)))

@@ -11,8 +11,9 @@ use lib.Dec.{ltb}
 use lib.ListN.{length, getD, drop, drop-of-length-le}
 use borrow.Author.Tests.{lt-ltb, le-ltb, ltb-false}
 use Rattle.domain.specs.Mask.{choose, either}
-use Rattle.overloads.specs.Signature.{Signature, takes}
-use Rattle.overloads.specs.Choice.{Entry, keep, longest, left, emptied, unlessEmpty, narrow, chosen, first}
+use Rattle.rules.specs.Signature.{Signature, takes}
+use Rattle.overloads.specs.Choice.{Entry, keep, left, emptied, unlessEmpty, narrow, chosen, first}
+use Rattle.rules.specs.Verdict.{longest}
 use Rattle.domain.proofs.Codes.{from-here}
 use Rattle.overloads.proofs.Narrowing.{Some}
 

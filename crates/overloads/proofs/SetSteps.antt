@@ -5,30 +5,30 @@ use mathlib.Core.Path.{_≡_, refl, sym, ap, _∙_}
 use mathlib.Core.Bool.{Bool, true, false, not}
 use mathlib.Core.List.{List, [], map}
 use mathlib.Core.Logic.{_⊎_, inl, inr}
-use Prim.Native.Nat.{ℕ, _^_, _≤_}
+use Prim.Native.Nat.{ℕ, _≤_}
 use lib.Bits.{bitAnd, and-zero-l}
 use lib.Dec.{ltb}
-use borrow.Author.Tests.{ltb-true, ltb-false, lt-ltb, le-leb}
+use borrow.Author.Tests.{ltb-true, ltb-false}
 use Rattle.domain.specs.Mask.{choose, both, filter, every, bits}
 use Rattle.domain.specs.Domain.{isAbstract}
-use Rattle.overloads.specs.Signature.{reaches}
+use Rattle.rules.specs.Signature.{reaches}
 use Rattle.domain.specs.Constructor.{singletonOfCode}
-use Rattle.overloads.specs.Rule.{passes}
-use Rattle.overloads.specs.Regular.{Known, pairs, codesOf, signatureFor, regularRules, regularVerdict, emptyRegular, narrowed, concreteSet, concludedOf, concluded?, allConclude, regularArg, regularConcrete}
+use Rattle.rules.specs.Rule.{passes}
+use Rattle.rules.specs.Regular.{Known, pairs, codesOf, signatureFor, regularRules, emptyRegular, narrowed, concreteSet, concludedOf, concluded?, allConclude, regularArg, regularConcrete}
 use Rattle.overloads.specs.Agreement.{stepRegular, askRegular, knownStep}
-use Rattle.overloads.specs.List.{onVerdict}
+use Rattle.rules.specs.Verdict.{onVerdict}
 use Rattle.domain.specs.declared.answer.Verdict.{Verdict}
-use Rattle.domain.specs.declared.answer.Verdict.the-variants.{Accepted}
-use Rattle.overloads.specs.declared.regular.ConclusionRule.{ConclusionRule}
-use Rattle.overloads.specs.declared.regular.Regular.{Regular}
-use Rattle.overloads.specs.declared.regular.RegularAnswer.the-variants as regular
-use Rattle.overloads.specs.declared.rule.Keep.{Keep}
-use Rattle.overloads.specs.declared.rule.Keep.the-variants.{Argument, Concrete}
+use Rattle.rules.specs.declared.regular.ConclusionRule.{ConclusionRule}
+use Rattle.rules.specs.declared.regular.Regular.{Regular}
+use Rattle.rules.specs.declared.regular.RegularAnswer.the-variants as regular
+use Rattle.rules.specs.declared.rule.Keep.{Keep}
+use Rattle.rules.specs.declared.rule.Keep.the-variants.{Argument, Concrete}
 use Rattle.domain.proofs.Bits.{bits-none}
 use Rattle.domain.proofs.Filters.{every-filter}
 use Rattle.overloads.proofs.InTurn.{listed-both, listed-comm, listed-twice, listed-all}
-use Rattle.overloads.proofs.RegularCodes.{narrowed-codes, concrete-codes}
-use Rattle.overloads.proofs.RegularSteps.{narrowed-rules, past-rules, concrete-rules, narrowed-known, concrete-known, empty-known}
+use Rattle.rules.proofs.Regulars.{known-accepted}
+use Rattle.rules.proofs.RegularCodes.{narrowed-codes, concrete-codes}
+use Rattle.rules.proofs.RegularSteps.{narrowed-rules, past-rules, concrete-rules, narrowed-known, concrete-known, empty-known}
 
 -- rules have an argument, or there is no constructor and so no rule: an index at or above the arity leaves a set of the second kind
 abbrev pub Lasting : Regular → Type 0
@@ -114,11 +114,6 @@ step-concludes (Argument i t) r e = go (ltb i (r .arity))
     go false = ap (every (λ t. concluded? (concludedOf (emptyRegular .conclude) t))) no-codes
 
 -- ---- the answer is the set that the step leaves
-
-pub known-accepted : (r : Regular) → Known r → regularVerdict r ≡ Accepted
-unfolding regularVerdict
-known-accepted r known =
-    simp (lt-ltb (r .constructors .0) (2 ^ 13) (known .constructors), lt-ltb (r .scalars .0) (2 ^ 12) (known .scalars), le-leb (r .arity) 4 (known .arity))
 
 pub asked-regular : (k : Keep) (r : Regular) → Known r → knownStep k ≡ true → askRegular k r ≡ regular.Set (stepRegular k r)
 unfolding stepRegular regularArg regularConcrete

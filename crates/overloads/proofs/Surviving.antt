@@ -9,8 +9,9 @@ use lib.Dec.{ltb}
 use lib.ListN.{length}
 use lib.Seq.{take-all}
 use Rattle.domain.specs.Mask.{choose, either, select, sift, maskOf}
-use Rattle.overloads.specs.Signature.{Signature}
-use Rattle.overloads.specs.Choice.{Entry, number, keep, longest, Narrowed, left, emptied, narrow, wrongCount, first, concreteStep, afterOperands, resolve}
+use Rattle.rules.specs.Signature.{Signature}
+use Rattle.overloads.specs.Choice.{Entry, number, keep, Narrowed, left, emptied, narrow, wrongCount, first, concreteStep, afterOperands, resolve}
+use Rattle.rules.specs.Verdict.{longest}
 use Rattle.overloads.specs.Call.{answered, membersOf, survivorsAfter, survivorsOf}
 use Rattle.overloads.specs.declared.call.CallAnswer.the-variants as call
 use Rattle.overloads.specs.declared.call.Survivors.the-variants as survivors

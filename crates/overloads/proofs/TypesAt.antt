@@ -6,8 +6,8 @@ use Prim.Native.Nat.{ℕ, _≤_, _<_}
 use lib.ListN.{length}
 use borrow.Author.Tests.{lt-ltb, le-ltb}
 use Rattle.domain.specs.Mask.{every}
-use Rattle.overloads.specs.Signature.{Signature}
-use Rattle.overloads.specs.Listing.{acceptedTypes, refusedTypes, typeAt, hasAt}
+use Rattle.rules.specs.Signature.{Signature}
+use Rattle.rules.specs.Listing.{acceptedTypes, refusedTypes, typeAt, hasAt}
 use Rattle.overloads.specs.List.{allowedOf}
 use Rattle.domain.specs.declared.refusal.Refusal.the-variants.{NoSuchArgument}
 

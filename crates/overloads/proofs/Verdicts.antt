@@ -7,8 +7,9 @@ use lib.Dec.{leb, ltb}
 use lib.ListN.{length}
 use borrow.Author.Tests.{ltb-true, leb-true}
 use Rattle.domain.specs.Mask.{choose, both, every}
-use Rattle.overloads.specs.Rule.{knownRule, shortRule}
-use Rattle.overloads.specs.List.{held, listing, entries, cleanList, acceptedList, refusedList, verdictOf, checkedList, onVerdict, emptyOf, Valid}
+use Rattle.rules.specs.Rule.{knownRule, shortRule}
+use Rattle.overloads.specs.List.{held, listing, entries, cleanList, acceptedList, refusedList, verdictOf, checkedList, Valid}
+use Rattle.rules.specs.Verdict.{onVerdict, emptyOf}
 use Rattle.domain.specs.declared.answer.Verdict.{Verdict}
 use Rattle.domain.specs.declared.answer.Verdict.the-variants.{Accepted, Refused}
 use Rattle.domain.specs.declared.answer.Test.the-variants as test

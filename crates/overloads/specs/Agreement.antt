@@ -10,19 +10,20 @@ use lib.Dec.{ltb}
 use lib.ListN.{length}
 use Rattle.domain.specs.Mask.{choose}
 use Rattle.domain.specs.Domain.{known?}
-use Rattle.overloads.specs.Signature.{Signature}
-use Rattle.overloads.specs.List.{mostRules, onVerdict, listing, acceptedList, refusedList, listStep, listArg, listPreferred}
-use Rattle.overloads.specs.Regular.{Known, regularRules, allConclude, emptyRegular, narrowed, concreteSet, regularArg, regularConcrete, regularPreferred}
+use Rattle.rules.specs.Signature.{Signature}
+use Rattle.overloads.specs.List.{mostRules, listing, acceptedList, refusedList, listStep, listArg, listPreferred}
+use Rattle.rules.specs.Verdict.{onVerdict}
+use Rattle.rules.specs.Regular.{Known, regularRules, allConclude, emptyRegular, narrowed, concreteSet, regularArg, regularConcrete, regularPreferred}
 use Rattle.overloads.specs.declared.list.Chosen.{Chosen}
 use Rattle.overloads.specs.declared.list.ChosenAnswer.the-variants as chosen
 use Rattle.overloads.specs.declared.list.List.{List}
 use Rattle.overloads.specs.declared.list.ListAnswer.{ListAnswer}
-use Rattle.overloads.specs.declared.regular.Regular.{Regular}
-use Rattle.overloads.specs.declared.regular.RegularAnswer.{RegularAnswer}
-use Rattle.overloads.specs.declared.regular.RegularAnswer.the-variants as regular
-use Rattle.overloads.specs.declared.rule.Keep.{Keep}
-use Rattle.overloads.specs.declared.rule.Keep.the-variants.{Argument, Concrete}
-use Rattle.overloads.specs.declared.rule.RuleAnswer.the-variants as rule
+use Rattle.rules.specs.declared.regular.Regular.{Regular}
+use Rattle.rules.specs.declared.regular.RegularAnswer.{RegularAnswer}
+use Rattle.rules.specs.declared.regular.RegularAnswer.the-variants as regular
+use Rattle.rules.specs.declared.rule.Keep.{Keep}
+use Rattle.rules.specs.declared.rule.Keep.the-variants.{Argument, Concrete}
+use Rattle.rules.specs.declared.rule.RuleAnswer.the-variants as rule
 
 -- arity 1 to 4, at most 63 members, a conclusion for each
 pub record Expands (r : Regular) : Type 0 where

@@ -1,9 +1,9 @@
 -- A set of either kind answers what its kind answers.
 use Prim.Native.Nat.{ℕ}
 use lib.ListN.{replicate}
-use Rattle.overloads.specs.Rule.{blankRule}
+use Rattle.rules.specs.Rule.{blankRule}
 use Rattle.overloads.specs.List.{mostRules, listArg, listStep, listEmpty, listCount, listPreferred, listListing, listAllowed}
-use Rattle.overloads.specs.Regular.{emptyRegular, regularEmpty, regularCount, regularArg, regularConcrete, regularPreferred, regularListing, regularAllowed}
+use Rattle.rules.specs.Regular.{emptyRegular, regularEmpty, regularCount, regularArg, regularConcrete, regularPreferred, regularListing, regularAllowed}
 use Rattle.domain.specs.declared.answer.Verdict.the-variants as verdict
 use Rattle.domain.specs.declared.answer.Test.{Test}
 use Rattle.domain.specs.declared.answer.CountAnswer.{CountAnswer}
@@ -15,14 +15,14 @@ use Rattle.overloads.specs.declared.list.List.{List}
 use Rattle.overloads.specs.declared.list.ListAnswer.{ListAnswer}
 use Rattle.overloads.specs.declared.list.ChosenAnswer.{ChosenAnswer}
 use Rattle.overloads.specs.declared.list.ChosenAnswer.the-variants as chosen
-use Rattle.overloads.specs.declared.listing.Listing.{Listing}
-use Rattle.overloads.specs.declared.listing.AllowedArgs.{AllowedArgs}
-use Rattle.overloads.specs.declared.regular.Regular.{Regular}
-use Rattle.overloads.specs.declared.regular.RegularAnswer.{RegularAnswer}
-use Rattle.overloads.specs.declared.regular.RegularAnswer.the-variants as regular
-use Rattle.overloads.specs.declared.rule.Keep.the-variants.{Concrete}
-use Rattle.overloads.specs.declared.rule.RuleAnswer.{RuleAnswer}
-use Rattle.overloads.specs.declared.rule.RuleAnswer.the-variants as rule
+use Rattle.rules.specs.declared.listing.Listing.{Listing}
+use Rattle.rules.specs.declared.listing.AllowedArgs.{AllowedArgs}
+use Rattle.rules.specs.declared.regular.Regular.{Regular}
+use Rattle.rules.specs.declared.regular.RegularAnswer.{RegularAnswer}
+use Rattle.rules.specs.declared.regular.RegularAnswer.the-variants as regular
+use Rattle.rules.specs.declared.rule.Keep.the-variants.{Concrete}
+use Rattle.rules.specs.declared.rule.RuleAnswer.{RuleAnswer}
+use Rattle.rules.specs.declared.rule.RuleAnswer.the-variants as rule
 
 unfoldable pub ofRegular : Regular → AnyOverloadSet
 ofRegular r = record { kind = kind.Regular r; rules = replicate mostRules blankRule }

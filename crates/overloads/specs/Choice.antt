@@ -1,11 +1,12 @@
 -- 'A single call': the rule that a call means, chosen from its function's listing by the steps of document 01, or what is wrong.
 use mathlib.Core.Bool.{Bool, true, false}
 use mathlib.Core.List.{List, [], _∷_}
-use Prim.Native.Nat.{ℕ, zero, suc, max}
+use Prim.Native.Nat.{ℕ, suc}
 use lib.Dec.{ltb}
 use lib.ListN.{length}
 use Rattle.domain.specs.Mask.{choose, either, consIf}
-use Rattle.overloads.specs.Signature.{Signature, takes, concrete}
+use Rattle.rules.specs.Signature.{Signature, takes, concrete}
+use Rattle.rules.specs.Verdict.{longest}
 
 -- a rule with its index in the function's full listing
 pub record Entry : Type 0 where
@@ -22,10 +23,6 @@ keep p [] = []
 keep p (x ∷ xs) = consIf (p (x .rule)) x (keep p xs)
 
 -- both counts, least and most, are the longest rule's
-abbrev pub longest : List Signature → ℕ
-longest [] = 0
-longest (r ∷ rs) = max (length (r .arguments)) (longest rs)
-
 abbrev pub leastCount : List Signature → ℕ
 leastCount rs = longest rs
 

@@ -1,20 +1,19 @@
 -- 'Agreement', first half: a Regular set of at most 63 members, without refusal 13, expands to a List.
-use mathlib.Core.Bool.{Bool}
 use mathlib.Core.List as L
 use mathlib.Core.List.{map}
 use Prim.Native.Nat.{_-_, _^_}
 use lib.Dec.{leb}
 use lib.ListN.{length}
-use Rattle.domain.specs.Mask.{choose, both, every, padded}
-use Rattle.domain.specs.Domain.{value?, known?}
-use Rattle.overloads.specs.Signature.{Signature}
-use Rattle.overloads.specs.Rule.{mostArguments, blankRule, ruleOf}
-use Rattle.overloads.specs.List.{mostRules, onVerdict, acceptedList, refusedList}
-use Rattle.overloads.specs.Regular.{regularVerdict, regularRules, allConclude}
+use Rattle.domain.specs.Mask.{choose, padded}
+use Rattle.rules.specs.Signature.{Signature}
+use Rattle.rules.specs.Rule.{blankRule, ruleOf}
+use Rattle.overloads.specs.List.{mostRules, acceptedList, refusedList}
+use Rattle.rules.specs.Verdict.{onVerdict}
+use Rattle.rules.specs.Regular.{regularVerdict, regularRules, allConclude}
 use Rattle.overloads.specs.declared.list.List.{List}
 use Rattle.overloads.specs.declared.list.ListAnswer.{ListAnswer}
 use Rattle.domain.specs.declared.refusal.Refusal.the-variants.{TooMany, NoConclusion}
-use Rattle.overloads.specs.declared.regular.Regular.{Regular}
+use Rattle.rules.specs.declared.regular.Regular.{Regular}
 
 -- the List of these rules, in this order, all of them members
 unfoldable pub listOf : L.List Signature → List
@@ -23,13 +22,6 @@ listOf rs = record {
   len = length rs;
   members = 2 ^ length rs - 1;
 }
-
--- at most four arguments; the arguments are value types, and the result is a type
-abbrev pub short? : Signature → Bool
-short? s = leb (length (s .arguments)) mostArguments
-
-abbrev pub typed? : Signature → Bool
-typed? s = both (every value? (s .arguments)) (known? (s .result))
 
 -- a set's own refusal, then 3 for more than 63 members, then 13 where a rule has no conclusion
 unfoldable pub expanded : Regular → ListAnswer

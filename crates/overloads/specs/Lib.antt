@@ -1,14 +1,8 @@
-pub mod Signature
 pub mod Choice
-pub mod Rule
-pub mod Listing
 pub mod List
-pub mod Regular
 pub mod Expansion
 pub mod Agreement
 pub mod AnyOverloadSet
 pub mod Taking
 pub mod Call
-pub mod Sequences
-pub mod Functions
-pub mod SetPaper
+pub mod CallPaper

@@ -7,27 +7,28 @@ use lib.Dec.{leb, ltb}
 use lib.ListN.{take, replicate}
 use Rattle.domain.specs.Mask.{choose, both, every, select, sift, padded}
 use Rattle.domain.specs.Domain.{known?}
-use Rattle.overloads.specs.Signature.{Signature}
-use Rattle.overloads.specs.Choice.{Entry, number, longest}
-use Rattle.overloads.specs.Rule.{blankRule, signatureOf, ruleOf, knownRule, shortRule, passes}
-use Rattle.overloads.specs.Listing.{acceptedListing, refusedListing, acceptedTypes, refusedTypes, typeAt, hasAt}
+use Rattle.rules.specs.Signature.{Signature}
+use Rattle.overloads.specs.Choice.{Entry, number}
+use Rattle.rules.specs.Verdict.{onVerdict, emptyOf, countOf}
+use Rattle.rules.specs.Rule.{blankRule, signatureOf, ruleOf, knownRule, shortRule, passes}
+use Rattle.rules.specs.Listing.{acceptedListing, refusedListing, acceptedTypes, refusedTypes, typeAt, hasAt}
 use Rattle.domain.specs.declared.answer.Verdict.{Verdict}
 use Rattle.domain.specs.declared.answer.Verdict.the-variants as verdict
 use Rattle.domain.specs.declared.answer.Test.{Test}
 use Rattle.domain.specs.declared.answer.Test.the-variants as test
 use Rattle.domain.specs.declared.answer.CountAnswer.{CountAnswer}
 use Rattle.domain.specs.declared.answer.CountAnswer.the-variants as count
-use Rattle.overloads.specs.declared.listing.Listing.{Listing}
-use Rattle.overloads.specs.declared.listing.AllowedArgs.{AllowedArgs}
+use Rattle.rules.specs.declared.listing.Listing.{Listing}
+use Rattle.rules.specs.declared.listing.AllowedArgs.{AllowedArgs}
 use Rattle.overloads.specs.declared.list.List.{List}
 use Rattle.overloads.specs.declared.list.ListAnswer.{ListAnswer}
 use Rattle.overloads.specs.declared.list.ChosenAnswer.{ChosenAnswer}
 use Rattle.overloads.specs.declared.list.ChosenAnswer.the-variants as chosen
 use Rattle.domain.specs.declared.refusal.Refusal.{Refusal}
 use Rattle.domain.specs.declared.refusal.Refusal.the-variants.{EmptySet, TooMany, NoSuchArgument, Unknown}
-use Rattle.overloads.specs.declared.rule.Rule.{Rule}
-use Rattle.overloads.specs.declared.rule.Keep.{Keep}
-use Rattle.overloads.specs.declared.rule.Keep.the-variants.{Argument}
+use Rattle.rules.specs.declared.rule.Rule.{Rule}
+use Rattle.rules.specs.declared.rule.Keep.{Keep}
+use Rattle.rules.specs.declared.rule.Keep.the-variants.{Argument}
 
 -- a List takes 63 rules
 abbrev pub mostRules : ℕ
@@ -72,11 +73,6 @@ verdictOf l =
     (choose (both (leb (l .len) mostRules) (every shortRule (held l))) verdict.Accepted (verdict.Refused TooMany))
     (verdict.Refused (Unknown 0))
 
--- what is answered of a set that is accepted, or its refusal
-abbrev pub onVerdict {ℓ} : {A : Type ℓ} → Verdict → A → (Refusal → A) → A
-onVerdict verdict.Accepted x y = x
-onVerdict (verdict.Refused why) x y = y why
-
 unfoldable pub checkedList : List → ListAnswer
 checkedList l = onVerdict (verdictOf l) (acceptedList (cleanList l)) refusedList
 
@@ -95,18 +91,8 @@ listStep k l = onVerdict (verdictOf l) (acceptedList (kept k (cleanList l))) ref
 unfoldable pub listArg : ℕ → ℕ → List → ListAnswer
 listArg i t l = choose (known? t) (listStep (Argument i t) l) (refusedList (Unknown 0))
 
--- whether no rule is left
-abbrev pub emptyOf : L.List Signature → Test
-emptyOf [] = test.Yes
-emptyOf (r ∷ rs) = test.No
-
 unfoldable pub listEmpty : List → Test
 listEmpty l = onVerdict (verdictOf l) (emptyOf (listing l)) test.Refused
-
--- both counts are the longest member's; of no rules, refusal 1
-abbrev pub countOf : L.List Signature → CountAnswer
-countOf [] = count.Refused (EmptySet 0)
-countOf (r ∷ rs) = count.Count (longest (r ∷ rs))
 
 unfoldable pub listCount : List → CountAnswer
 listCount l = onVerdict (verdictOf l) (countOf (listing l)) count.Refused

@@ -6,8 +6,9 @@ use mathlib.Core.List.{List}
 use mathlib.Core.Option.{some}
 use Prim.Native.Nat.{ℕ, _≤_, _<_}
 use lib.ListN.{length, getD, getElem?}
-use Rattle.overloads.specs.Signature.{Signature, reaches, concrete}
-use Rattle.overloads.specs.Choice.{longest, Choice, chosen, wrongCount, noneAfter, noneConcrete}
+use Rattle.rules.specs.Signature.{Signature, reaches, concrete}
+use Rattle.rules.specs.Verdict.{longest}
+use Rattle.overloads.specs.Choice.{Choice, chosen, wrongCount, noneAfter, noneConcrete}
 
 -- a rule takes operands: as many as it has arguments, each of them its argument's type or converted to it, and, with the
 -- concrete-only switch on, no argument abstract

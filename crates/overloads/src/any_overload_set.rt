@@ -6,15 +6,15 @@ ghost use Rattle.overloads.specs.AnyOverloadSet.{ofRegular, ofList, anyE
 use crate::list::ChosenAnswer;
 use crate::list::List;
 use crate::list::ListAnswer;
-use crate::listing::AllowedArgs;
-use crate::listing::Listing;
-use crate::regular::Regular;
-use crate::regular::RegularAnswer;
-use crate::rule::Rule;
-use crate::rule::RuleAnswer;
 use domain::CountAnswer;
 use domain::Test;
 use domain::Verdict;
+use rules::AllowedArgs;
+use rules::Listing;
+use rules::Regular;
+use rules::RegularAnswer;
+use rules::Rule;
+use rules::RuleAnswer;
 
 pub struct AnyOverloadSet {
     pub kind: SetKind,

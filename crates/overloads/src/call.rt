@@ -10,18 +10,18 @@ ghost use lib.ListN.{length};
 ghost use Rattle.domain.specs.Mask.{bits};
 ghost use Rattle.overloads.specs.Choice.{narrow, number, resolve};
 ghost use Rattle.overloads.specs.List.{signatures};
-ghost use Rattle.overloads.specs.Regular.{Known, regularRules};
+ghost use Rattle.rules.specs.Regular.{Known, regularRules};
 ghost use Rattle.overloads.specs.Call.{answered, survivorsOf, survivorsAfter, maskAnswer, Callable, Full, rank, placeIn, preferredIn};
 use crate::expansion::expand;
 use crate::list::Chosen;
 use crate::list::List;
-use crate::regular::Regular;
-use crate::rule::Keep;
-use crate::rule::RuleAnswer;
 use crate::walks::filter;
 use crate::walks::longest;
 use domain::CountAnswer;
 use domain::Refusal;
+use rules::Keep;
+use rules::Regular;
+use rules::RuleAnswer;
 
 // The answer to a call: the chosen rule, with its index in the function's full listing.
 pub enum CallAnswer {
@@ -37,7 +37,7 @@ pub enum Survivors {
 
 // The rule that a Regular set chooses. Refused 5 for a number of operands that is not its arity, 6 at the operand that leaves no rule,
 // then 1 where the concrete-only step leaves none.
-pub fn call_regular(set: Regular, operands: &[u8], switch: bool) -> CallAnswer
+pub(crate) fn call_regular(set: Regular, operands: &[u8], switch: bool) -> CallAnswer
     requires { ⌜ Callable set ⌝ }
     ensures { λ r. ⌜ r ≡ answered (resolve switch (regularRules set) (now (operands .entry))) ⌝ }
 {
@@ -70,7 +70,7 @@ fn preferred(set: Regular, left: Regular) -> CallAnswer
     let k = u16::trailing_zeros(left.constructors.0);
     let s = u16::trailing_zeros(left.scalars.0);
     let index = place(set, k, s);
-    match set.rule((k as u8) * 12 + (s as u8)) {
+    match set.rule_of((k as u8) * 12 + (s as u8)) {
         RuleAnswer::Refused(why) => CallAnswer::Refused(why),
         RuleAnswer::Rule(rule) => CallAnswer::Rule(Chosen {
             index: index,
@@ -99,7 +99,7 @@ fn below(mask: u16, k: u32) -> u32
 }
 
 // The rule that a List chooses: the first that survives. Refused as `survivors_list` is.
-pub fn call_list(list: List, operands: &[u8], switch: bool) -> CallAnswer
+pub(crate) fn call_list(list: List, operands: &[u8], switch: bool) -> CallAnswer
     requires { ⌜ Full list ⌝ }
     ensures { λ r. ⌜ r ≡ answered (resolve switch (signatures list) (now (operands .entry))) ⌝ }
 {
@@ -117,7 +117,7 @@ pub fn call_list(list: List, operands: &[u8], switch: bool) -> CallAnswer
 }
 
 // The rules of a Regular set that survive a call, by the List that it expands to. Refused as `survivors_list` is.
-pub fn survivors_regular(set: Regular, operands: &[u8], switch: bool) -> Survivors
+pub(crate) fn survivors_regular(set: Regular, operands: &[u8], switch: bool) -> Survivors
     requires { ⌜ Callable set × (length (regularRules set) ≤ 63) ⌝ }
     ensures { λ r. ⌜ r ≡ survivorsOf switch (regularRules set) (now (operands .entry)) ⌝ }
 {
@@ -128,7 +128,7 @@ pub fn survivors_regular(set: Regular, operands: &[u8], switch: bool) -> Survivo
 
 // The rules of a List that survive a call. Refused 5 for a number of operands that is not the longest rule's, 6 at the operand that
 // leaves no rule, then 1 where the concrete-only step leaves none.
-pub fn survivors_list(list: List, operands: &[u8], switch: bool) -> Survivors
+pub(crate) fn survivors_list(list: List, operands: &[u8], switch: bool) -> Survivors
     requires { ⌜ Full list ⌝ }
     ensures { λ r. ⌜ r ≡ survivorsOf switch (signatures list) (now (operands .entry)) ⌝ }
 {

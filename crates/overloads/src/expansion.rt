@@ -9,11 +9,11 @@ use crate::list::MOST_RULES;
 use crate::list::accepted;
 use crate::list::full_mask;
 use crate::list::refused;
-use crate::regular::Regular;
-use crate::rule::Rule;
 use domain::CountAnswer;
 use domain::Refusal;
 use domain::Verdict;
+use rules::Regular;
+use rules::Rule;
 
 // The List of a Regular set's rules. Refused as the set is, then 3 for more than 63 rules, then 13 where one has no conclusion.
 pub fn expand(set: Regular) -> ListAnswer
@@ -22,12 +22,11 @@ pub fn expand(set: Regular) -> ListAnswer
     if let Verdict::Refused(why) = set.verdict() {
         return refused(why);
     }
-    let found = set.codes();
-    let n = found.count;
+    let n = (u16::count_ones(set.constructors.0) * u16::count_ones(set.scalars.0)) as usize;
     if MOST_RULES < n {
         return refused(Refusal::TooMany);
     }
-    let listing = set.listed();
+    let listing = set.overload_list();
     let answer = listing.answer;
     let rules = listing.rules;
     match answer {

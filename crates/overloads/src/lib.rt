@@ -1,20 +1,16 @@
-// Overload resolution for WGSL's built-in functions: naga's `src/proc/overloads`, above the crate `domain`.
+// Overload resolution: Lists of rules, sets of either kind, and single calls of the built-in functions. naga's
+// `src/proc/overloads/list.rs` and `any_overload_set.rs`, above the crates `rules` and `functions`.
 //
-// One file for each file of the crate that deals with rules, under its name. Beside them stand `listing`, `walks` and `expansion`.
-// Every public function ends on every input and tests it itself.
+// Each file has the name of the Rust's. Beside them stand `walks`, the loops over a List's members; `expansion`, a Regular set as a
+// List; `function_list`, the List of a function; `call` and `function_call`, what the Rust's front end does with a set. Every public
+// function ends on every input and tests it itself.
 
 mod any_overload_set;
 mod call;
 mod expansion;
-mod full_listing;
 mod function_call;
+mod function_list;
 mod list;
-mod listed_rules;
-mod listing;
-mod mathfunction;
-mod regular;
-mod rule;
-mod utils;
 mod walks;
 
 pub use any_overload_set::AnyAnswer;
@@ -23,26 +19,10 @@ pub use any_overload_set::SetKind;
 pub use call::CallAnswer;
 pub use call::Survivors;
 pub use expansion::expand;
-pub use full_listing::rule_at;
 pub use function_call::call_of;
 pub use function_call::survivors_of;
+pub use function_list::list_of;
 pub use list::Chosen;
 pub use list::ChosenAnswer;
 pub use list::List;
 pub use list::ListAnswer;
-pub use listed_rules::list_of;
-pub use listing::AllowedArgs;
-pub use listing::Listing;
-pub use mathfunction::FUNCTION_COUNT;
-pub use mathfunction::FunctionSet;
-pub use mathfunction::Listed;
-pub use mathfunction::function_set;
-pub use regular::ConclusionRule;
-pub use regular::Regular;
-pub use regular::RegularAnswer;
-pub use rule::Keep;
-pub use rule::Predeclared;
-pub use rule::Rule;
-pub use rule::RuleAnswer;
-pub use rule::for_frexp_modf;
-pub use rule::reaches;

@@ -3,22 +3,14 @@
 // The crate shares a vector of rules by reference count. Here up to 63 small records stand in an array, with a length; bit k of the
 // mask says that rule k is a member. Whoever hands in a List may have put anything there, so each public operation tests it first.
 
-ghost use mathlib.Core.Bool.{true};
 ghost use mathlib.Core.List.{map};
 ghost use mathlib.Core.Path.{_≡_};
 ghost use Prim.Native.Nat.{_-_, _^_, _≤_, min};
 ghost use lib.Dec.{leb, ltb};
 ghost use lib.ListN.{take};
 ghost use Rattle.domain.specs.Mask.{choose, padded, every};
-ghost use Rattle.overloads.specs.Rule.{blankRule, ruleOf, signatureOf, knownRule, shortRule};
+ghost use Rattle.rules.specs.Rule.{blankRule, ruleOf, signatureOf, knownRule, shortRule};
 ghost use Rattle.overloads.specs.List.{mostRules, checkedList, fromRules, listArg, listStep, listEmpty, listCount, listPreferred, listListing, listAllowed, acceptedList, refusedList};
-use crate::listing::AllowedArgs;
-use crate::listing::Listing;
-use crate::listing::no_listing;
-use crate::listing::no_types;
-use crate::rule::Keep;
-use crate::rule::MOST_ARGUMENTS;
-use crate::rule::Rule;
 use crate::walks::allowed;
 use crate::walks::filter;
 use crate::walks::first;
@@ -29,9 +21,16 @@ use domain::LAST_CODE;
 use domain::Refusal;
 use domain::Test;
 use domain::Verdict;
+use rules::AllowedArgs;
+use rules::Keep;
+use rules::Listing;
+use rules::MOST_ARGUMENTS;
+use rules::Rule;
+use rules::no_listing;
+use rules::no_types;
 
 // The most rules of a List.
-pub const MOST_RULES: usize = 63;
+pub(crate) const MOST_RULES: usize = 63;
 
 pub struct List {
     // The rules, each more preferred than all that follow it.
@@ -208,7 +207,7 @@ impl List {
 }
 
 // The List of no rules, as a refusal answers it, beside the refusal.
-pub fn refused(why: Refusal) -> ListAnswer
+pub(crate) fn refused(why: Refusal) -> ListAnswer
     ensures { λ r. ⌜ r ≡ refusedList why ⌝ }
 {
     ListAnswer {
@@ -222,7 +221,7 @@ pub fn refused(why: Refusal) -> ListAnswer
 }
 
 // A List that is accepted.
-pub fn accepted(list: List) -> ListAnswer
+pub(crate) fn accepted(list: List) -> ListAnswer
     ensures { λ r. ⌜ r ≡ acceptedList list ⌝ }
 {
     ListAnswer {
@@ -242,7 +241,7 @@ fn held(n: usize) -> usize
 }
 
 // The mask of n members; of more rules than a List holds, none.
-pub fn full_mask(n: usize) -> u64
+pub(crate) fn full_mask(n: usize) -> u64
     ensures { λ r. ⌜ r ≡ choose (leb n mostRules) (2 ^ n - 1) 0 ⌝ }
 {
     if MOST_RULES < n {
@@ -295,7 +294,7 @@ fn all_short(rules: [Rule; 63], n: usize) -> bool
 
 // The first n rules, with 255 in what is not in use.
 fn cleaned(rules: [Rule; 63], n: usize) -> [Rule; 63]
-    requires { ⌜ (n ≤ 63) × (every shortRule (take n rules) ≡ true) ⌝ }
+    requires { ⌜ n ≤ 63 ⌝ }
     ensures { λ r. ⌜ r ≡ padded 63 blankRule (map ruleOf (map signatureOf (take n rules))) ⌝ }
 {
     let mut out = [Rule::BLANK; 63];

@@ -1,22 +1,23 @@
 // The walks over the members of a tested List, lowest bit first; each member's number is had by counting trailing zeros.
 
 ghost use mathlib.Core.Path.{_≡_};
-ghost use Rattle.overloads.specs.Listing.{acceptedListing};
-ghost use Rattle.overloads.specs.List.{Valid, kept, countOf, preferredOf, allowedOf, listing, entries};
+ghost use Rattle.rules.specs.Listing.{acceptedListing};
+ghost use Rattle.overloads.specs.List.{Valid, kept, preferredOf, allowedOf, listing, entries};
+ghost use Rattle.rules.specs.Verdict.{countOf};
 use crate::list::Chosen;
 use crate::list::ChosenAnswer;
 use crate::list::List;
-use crate::listing::AllowedArgs;
-use crate::listing::Listing;
-use crate::listing::no_codes;
-use crate::listing::no_rules;
-use crate::listing::no_types;
-use crate::rule::Keep;
 use domain::CountAnswer;
 use domain::Refusal;
+use rules::AllowedArgs;
+use rules::Keep;
+use rules::Listing;
+use rules::no_codes;
+use rules::no_rules;
+use rules::no_types;
 
 // The members that pass a test: one walk for every step.
-pub fn filter(list: List, keep: Keep) -> List
+pub(crate) fn filter(list: List, keep: Keep) -> List
     requires { ⌜ Valid list ⌝ }
     ensures { λ r. ⌜ r ≡ kept keep list ⌝ }
 {
@@ -40,7 +41,7 @@ pub fn filter(list: List, keep: Keep) -> List
 }
 
 // The longest member's number of arguments.
-pub fn longest(list: List) -> CountAnswer
+pub(crate) fn longest(list: List) -> CountAnswer
     requires { ⌜ Valid list ⌝ }
     ensures { λ r. ⌜ r ≡ countOf (listing list) ⌝ }
 {
@@ -61,7 +62,7 @@ pub fn longest(list: List) -> CountAnswer
 }
 
 // The first member.
-pub fn first(list: List) -> ChosenAnswer
+pub(crate) fn first(list: List) -> ChosenAnswer
     requires { ⌜ Valid list ⌝ }
     ensures { λ r. ⌜ r ≡ preferredOf (entries list) ⌝ }
 {
@@ -78,7 +79,7 @@ pub fn first(list: List) -> ChosenAnswer
 }
 
 // The members' rules.
-pub fn listed(list: List) -> Listing
+pub(crate) fn listed(list: List) -> Listing
     requires { ⌜ Valid list ⌝ }
     ensures { λ r. ⌜ r ≡ acceptedListing (listing list) ⌝ }
 {
@@ -99,7 +100,7 @@ pub fn listed(list: List) -> Listing
 }
 
 // The members' types at an argument.
-pub fn allowed(list: List, i: usize) -> AllowedArgs
+pub(crate) fn allowed(list: List, i: usize) -> AllowedArgs
     requires { ⌜ Valid list ⌝ }
     ensures { λ r. ⌜ r ≡ allowedOf i (listing list) ⌝ }
 {

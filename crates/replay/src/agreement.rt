@@ -11,8 +11,8 @@ use crate::set_answers::preferred_agrees;
 use crate::steps::stepped;
 use domain::Verdict;
 use overloads::AnyOverloadSet;
-use overloads::Regular;
 use overloads::expand;
+use rules::Regular;
 
 // Whether the expansion answers as the record of its Regular set says. A record without one has nothing to compare, and agrees.
 pub fn agrees(record: &[u8]) -> bool {

@@ -2,9 +2,9 @@
 
 use crate::records::wide;
 use crate::set_answers::allowed_agrees;
+use functions::FunctionSet;
+use functions::function_set;
 use overloads::AnyOverloadSet;
-use overloads::FunctionSet;
-use overloads::function_set;
 use overloads::list_of;
 
 // Whether the types that the function's full set allows there are the stored ones.

@@ -2,7 +2,7 @@
 
 use crate::answers::is_refusal;
 use crate::hand_made::list_of;
-use crate::rules::RULE_BYTES;
+use crate::rule_records::RULE_BYTES;
 use crate::set_answers::listing_agrees;
 use domain::Verdict;
 use overloads::AnyOverloadSet;

@@ -2,14 +2,14 @@
 // index of the preferred one, its result, and the types of the operands.
 
 use crate::records::word;
-use crate::rules::same;
+use crate::rule_records::same;
+use functions::rule_at;
 use overloads::CallAnswer;
-use overloads::Rule;
-use overloads::RuleAnswer;
 use overloads::Survivors;
 use overloads::call_of;
-use overloads::rule_at;
 use overloads::survivors_of;
+use rules::Rule;
+use rules::RuleAnswer;
 
 // Whether the rules that survive, and the one that is chosen, are the stored ones.
 pub fn agrees(record: &[u8]) -> bool {

@@ -2,18 +2,18 @@
 // then the rules of a List.
 
 use crate::records::word;
-use crate::rules::RULE_BYTES;
-use crate::rules::rules_of;
+use crate::rule_records::RULE_BYTES;
+use crate::rule_records::rules_of;
 use domain::ConstructorSet;
 use domain::Refusal;
 use domain::ScalarSet;
 use domain::Verdict;
 use overloads::AnyAnswer;
 use overloads::AnyOverloadSet;
-use overloads::ConclusionRule;
 use overloads::List;
 use overloads::ListAnswer;
-use overloads::Regular;
+use rules::ConclusionRule;
+use rules::Regular;
 
 // The bytes of a Regular set.
 const REGULAR_BYTES: usize = 7;

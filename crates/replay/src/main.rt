@@ -21,7 +21,7 @@ mod named_sets;
 mod parts;
 mod records;
 mod refused;
-mod rules;
+mod rule_records;
 mod set_answers;
 mod steps;
 mod tally;

@@ -2,14 +2,14 @@
 
 use crate::answers::is_refusal;
 use crate::records::wide;
-use crate::rules::RULE_BYTES;
-use crate::rules::rule_at;
-use crate::rules::rules_agree;
-use crate::rules::same;
+use crate::rule_records::RULE_BYTES;
+use crate::rule_records::rule_at;
+use crate::rule_records::rules_agree;
+use crate::rule_records::same;
 use domain::CountAnswer;
 use domain::Refusal;
 use overloads::AnyOverloadSet;
-use overloads::RuleAnswer;
+use rules::RuleAnswer;
 
 // Whether the stored answer is an acceptance.
 pub fn accepted(stored: &[u8]) -> bool {

@@ -11,13 +11,13 @@ use lib.Dec.{ltb}
 use lib.ListN.{length}
 use Rattle.domain.specs.Mask.{choose}
 use Rattle.domain.specs.Domain.{firstUnknown}
-use Rattle.overloads.specs.Signature.{Signature}
-use Rattle.overloads.specs.Rule.{argumentsOf, ruleOf}
+use Rattle.rules.specs.Signature.{Signature}
+use Rattle.rules.specs.Rule.{argumentsOf, ruleOf}
 use Rattle.overloads.specs.Choice.{Choice, chosen, wrongCount, noneAfter, noneConcrete, resolve}
 use Rattle.overloads.specs.Taking.{Says}
 use Rattle.overloads.proofs.Choices.{resolve-says}
-use Rattle.overloads.proofs.Records.{record-says}
-use Rattle.overloads.specs.Functions.{functionCount, listingOf}
+use Rattle.rules.proofs.Records.{record-says}
+use Rattle.functions.specs.Functions.{functionCount, listingOf}
 use Rattle.overloads.specs.Call.{answered, callOf}
 use Rattle.domain.specs.Refusal.{numberOf, placeOf}
 use Rattle.overloads.specs.declared.list.Chosen.{Chosen}

@@ -9,12 +9,12 @@ use native.Mathlib.Omega.{arith}
 use lib.ListN.{length, getD, take, drop, length-append, length-take}
 use lib.Seq.{take-add, take-at, drop-at, getD-take, getD-append-add}
 use Rattle.domain.specs.Domain.{firstUnknown}
-use Rattle.overloads.specs.Rule.{argumentsOf, ruleOf}
-use Rattle.overloads.specs.Signature.{Signature}
+use Rattle.rules.specs.Rule.{argumentsOf, ruleOf}
+use Rattle.rules.specs.Signature.{Signature}
 use Rattle.overloads.specs.Choice.{Choice, chosen, wrongCount, noneAfter, noneConcrete, resolve}
-use Rattle.overloads.specs.Functions.{functionCount, listingOf}
+use Rattle.functions.specs.Functions.{functionCount, listingOf}
 use Rattle.overloads.specs.Call.{answered, callOf}
-use Rattle.overloads.specs.declared.rule.Rule.{Rule}
+use Rattle.rules.specs.declared.rule.Rule.{Rule}
 use Rattle.overloads.specs.declared.list.Chosen.{Chosen}
 use Rattle.overloads.specs.declared.call.CallAnswer.the-variants as answers
 use Rattle.domain.specs.declared.refusal.Refusal.{Refusal}

@@ -10,8 +10,8 @@ use borrow.Author.Tests.{eq-eqb, ne-eqb}
 use lib.Dec.{eqb}
 use lib.ListN.{length, getD, drop, length-drop, drop-of-length-le}
 use lib.Seq.{drop-cons}
-use Rattle.overloads.specs.Rule.{argumentsOf}
-use Rattle.overloads.specs.declared.rule.Rule.{Rule}
+use Rattle.rules.specs.Rule.{argumentsOf}
+use Rattle.rules.specs.declared.rule.Rule.{Rule}
 use Rattle.worksheet.specs.declared.sheet.Sheet.{Sheet}
 use Rattle.worksheet.specs.Line.{conversionLine, conversionMark, unlessSame, conversions, encode}
 use Rattle.worksheet.specs.Sheet.{Wrote}

@@ -11,12 +11,11 @@ use borrow.Author.Tests.{leb-true}
 use Rattle.domain.specs.Mask.{every}
 use Rattle.domain.specs.Domain.{value?, known?}
 use Rattle.domain.proofs.Filters.{both-left, both-right}
-use Rattle.overloads.specs.Signature.{Signature}
-use Rattle.overloads.specs.Functions.{functionCount, listingOf, rulesIn}
+use Rattle.rules.specs.Signature.{Signature}
+use Rattle.functions.specs.Functions.{functionCount, listingOf, rulesIn}
 use Rattle.overloads.specs.Taking.{OneLength}
-use Rattle.overloads.specs.Rule.{mostArguments}
-use Rattle.overloads.specs.Expansion.{short?}
-use Rattle.overloads.proofs.Database as database
+use Rattle.rules.specs.Rule.{mostArguments, short?}
+use Rattle.functions.proofs.Database as database
 
 -- a test that every rule passes, at one of them
 picked : (p : Signature → Bool) (rs : List Signature) (i : ℕ) (r : Signature) → every p rs ≡ true → getElem? rs i ≡ some r → p r ≡ true

@@ -10,7 +10,7 @@ use Prim.Native.Nat.{ℕ, _≤_}
 use native.Mathlib.Omega.{arith}
 use lib.ListN.{length}
 use borrow.Author.Tests.{le-leb}
-use Rattle.overloads.specs.Signature.{Signature}
+use Rattle.rules.specs.Signature.{Signature}
 use Rattle.overloads.specs.Taking.{OneLength}
 use Rattle.domain.specs.declared.refusal.Refusal.{Refusal}
 use Rattle.worksheet.specs.Tree.{Tree, WellFormed}

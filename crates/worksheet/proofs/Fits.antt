@@ -8,7 +8,7 @@ use Prim.Native.Nat.{ℕ, zero, suc, _≤_, _<_}
 use native.Mathlib.Omega.{arith}
 use lib.Dec.{eqb}
 use lib.ListN.{length, getD, getElem?}
-use Rattle.overloads.specs.Signature.{Signature, reaches}
+use Rattle.rules.specs.Signature.{Signature, reaches}
 use Rattle.overloads.specs.Taking.{Best}
 use Rattle.worksheet.specs.Tree.{Tree, Trees, leaf, call, none, more, nodes, nodesAll, mostNodes, Known, KnownAll}
 use Rattle.worksheet.specs.Line.{Line, conversionLine, callLine, unlessSame, conversions, callLines, encode}

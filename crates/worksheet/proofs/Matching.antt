@@ -7,12 +7,11 @@ use native.Mathlib.Omega.{arith}
 use lib.Dec.{eqb}
 use lib.ListN.{length, getD, drop, length-drop}
 use lib.Seq.{getD-take, getD-drop}
-use Rattle.overloads.specs.Rule.{mostArguments, argumentsOf}
-use Rattle.overloads.specs.declared.rule.Rule.{Rule}
+use Rattle.rules.specs.Rule.{mostArguments, argumentsOf}
+use Rattle.rules.specs.declared.rule.Rule.{Rule}
 use Rattle.worksheet.specs.declared.machine.Stack.{Stack}
 use Rattle.worksheet.specs.MachineStack.{operandsOf, InBounds, alikeFrom}
-use Rattle.overloads.proofs.Rules.{count-of}
-use Rattle.worksheet.proofs.Stacks.{counted}
+use Rattle.worksheet.proofs.Stacks.{arity, counted}
 use Rattle.worksheet.proofs.Likeness.{same-end, same-differ, same-next}
 
 module _ (k : Stack) (q : Rule) (fits : InBounds k) (short : q .count ≤ mostArguments) (enough : q .count ≤ k .top) (i : ℕ) where
@@ -21,7 +20,7 @@ module _ (k : Stack) (q : Rule) (fits : InBounds k) (short : q .count ≤ mostAr
 
   pub alike-end : q .count ≤ i → alikeFrom i k q ≡ true
   alike-end h =
-      same-end (drop (k .top - q .count) (operandsOf k)) (argumentsOf q) i (omega (arith, many)) (omega (arith, count-of q short))
+      same-end (drop (k .top - q .count) (operandsOf k)) (argumentsOf q) i (omega (arith, many)) (omega (arith, arity q short))
 
   -- what comparing the operand at argument i with it answers
   abbrev pub Compared : Bool → Type 0
@@ -37,9 +36,9 @@ module _ (k : Stack) (q : Rule) (fits : InBounds k) (short : q .count ≤ mostAr
     pub alike-differ : (b : Bool) → Compared b → b ≡ false → alikeFrom i k q ≡ false
     alike-differ b e f =
         same-differ (drop (k .top - q .count) (operandsOf k)) (argumentsOf q) i 0 255 (omega (arith, many))
-        (omega (arith, count-of q short)) (compared b e ∙ f)
+        (omega (arith, arity q short)) (compared b e ∙ f)
 
     pub alike-next : (b : Bool) → Compared b → b ≡ true → alikeFrom (i + 1) k q ≡ alikeFrom i k q
     alike-next b e f =
         same-next (drop (k .top - q .count) (operandsOf k)) (argumentsOf q) i 0 255 (omega (arith, many))
-        (omega (arith, count-of q short)) (compared b e ∙ f)
+        (omega (arith, arity q short)) (compared b e ∙ f)

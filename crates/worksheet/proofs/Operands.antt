@@ -10,7 +10,7 @@ use lib.Dec.{eqb}
 use lib.ListN.{length, getD}
 use borrow.Author.Tests.{ltb-true, le-ltb, eqb-true}
 use Rattle.domain.specs.Domain.{value?, constructorPart}
-use Rattle.overloads.specs.Signature.{Signature, sameShape, sameNumber, reaches}
+use Rattle.rules.specs.Signature.{Signature, sameShape, sameNumber, reaches}
 use Rattle.overloads.specs.Taking.{NoRule}
 use Rattle.domain.proofs.Filters.{both-left, both-right}
 

@@ -6,7 +6,7 @@ use mathlib.Core.Bool.{Bool}
 use mathlib.Core.List.{List}
 use mathlib.Core.Path.{_≡_}
 use Prim.Native.Nat.{ℕ}
-use Rattle.overloads.specs.Functions.{functionCount, listingOf}
+use Rattle.functions.specs.Functions.{functionCount, listingOf}
 use Rattle.worksheet.specs.Tree.{Tree, bytesOf, WellFormed}
 use Rattle.worksheet.specs.Reading.{read, expressionOf}
 use Rattle.worksheet.specs.Demand3.{Demand3}

@@ -9,7 +9,7 @@ use Prim.Native.Nat.{ℕ, suc, _+_, _-_, _≤_, _<_}
 use native.Mathlib.Numerals.{add-one}
 use native.Mathlib.Omega.{arith}
 use lib.ListN.{length, getD, drop}
-use Rattle.overloads.specs.Signature.{Signature}
+use Rattle.rules.specs.Signature.{Signature}
 use Rattle.worksheet.specs.declared.machine.Run.the-variants.{Stopped}
 use Rattle.worksheet.specs.declared.machine.Stepped.{Stepped}
 use Rattle.worksheet.specs.Line.{lineOf}

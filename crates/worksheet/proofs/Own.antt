@@ -6,7 +6,7 @@ use mathlib.Core.List.{List, [], _∷_, _++_}
 use Prim.Native.Nat.{ℕ, suc}
 use lib.Dec.{eqb}
 use lib.ListN.{length}
-use Rattle.overloads.specs.Signature.{Signature}
+use Rattle.rules.specs.Signature.{Signature}
 use Rattle.worksheet.specs.Tree.{Tree, Trees, leaf, call, none, more, count}
 use Rattle.worksheet.specs.Line.{Line, leafLine, conversionLine, callLine, unlessSame, conversions, callLines}
 use Rattle.worksheet.specs.Meaning.{Node, leafNode, callNode, order, orderAll, ownOf, Gives, leafGives, callGives, GiveAll, noneGive, moreGive}

@@ -8,7 +8,7 @@ use Prim.Native.Nat.{ℕ, _+_, _-_, _*_, _≤_, _<_}
 use native.Mathlib.Omega.{arith}
 use lib.ListN.{length, getD, drop, length-append}
 use Rattle.overloads.specs.Choice.{Choice, chosen, wrongCount, noneAfter, noneConcrete, resolve}
-use Rattle.overloads.specs.Functions.{functionCount, listingOf}
+use Rattle.functions.specs.Functions.{functionCount, listingOf}
 use Rattle.domain.specs.declared.refusal.Refusal.{Refusal}
 use Rattle.worksheet.specs.declared.sheet.Sheet.{Sheet}
 use Rattle.worksheet.specs.declared.stack.Stack.{Stack}

@@ -4,12 +4,12 @@ use Rattle.domain.specs.Mask.{bits}
 use Rattle.domain.specs.Domain.{converts, isAbstract, firstUnknown}
 use Rattle.domain.specs.Conversion.{combination, agree, consensusWith, consensusWithout}
 use Rattle.domain.specs.TypeCode.{predeclaredCode}
-use Rattle.overloads.specs.Signature.{reaches}
+use Rattle.rules.specs.Signature.{reaches}
 use Rattle.overloads.specs.Choice.{narrow, resolve}
-use Rattle.overloads.specs.Rule.{ruleOf}
-use Rattle.overloads.specs.Regular.{codesOf, concludedOf, regularRules}
-use Rattle.overloads.specs.Sequences.{floatScalars, concreteFloatScalars, concreteIntScalars, vectorSizes, vector, matrix, scalarOrVecn}
-use Rattle.overloads.specs.Functions.{functionSets, functionSetOf, listedRules, listingOf}
+use Rattle.rules.specs.Rule.{ruleOf}
+use Rattle.rules.specs.Regular.{codesOf, concludedOf, regularRules}
+use Rattle.functions.specs.Sequences.{floatScalars, concreteFloatScalars, concreteIntScalars, vectorSizes, vector, matrix, scalarOrVecn}
+use Rattle.functions.specs.Functions.{functionSets, functionSetOf, listedRules, listingOf}
 use Rattle.overloads.specs.Call.{callOf, survivorsOf, survivorsOfCall}
 use Rattle.worksheet.specs.Reading.{argsAt, leafAt, callAt, taggedAt, nodeAt, expressionOf}
 use Rattle.worksheet.specs.Line.{encode}

@@ -11,14 +11,14 @@ use lib.Dec.{ltb}
 use lib.ListN.{length, getElem?}
 use borrow.Author.Tests.{ltb-false}
 use Rattle.domain.specs.Mask.{choose}
-use Rattle.overloads.specs.Signature.{Signature}
-use Rattle.overloads.specs.Rule.{mostArguments, signatureOf, ruleOf}
-use Rattle.overloads.specs.Functions.{functionCount, listingOf, ruleIn, ruleAt}
-use Rattle.overloads.specs.declared.rule.Rule.{Rule}
+use Rattle.rules.specs.Signature.{Signature}
+use Rattle.rules.specs.Rule.{mostArguments, signatureOf, ruleOf}
+use Rattle.functions.specs.Functions.{functionCount, listingOf, ruleIn, ruleAt}
+use Rattle.rules.specs.declared.rule.Rule.{Rule}
 use Rattle.domain.specs.declared.refusal.Refusal.{Refusal}
 use Rattle.domain.specs.declared.refusal.Refusal.the-variants.{Unknown}
-use Rattle.overloads.specs.declared.rule.RuleAnswer.the-variants as answered
-use Rattle.overloads.proofs.Records.{record-says}
+use Rattle.rules.specs.declared.rule.RuleAnswer.the-variants as answered
+use Rattle.rules.proofs.Records.{record-says}
 use Rattle.worksheet.specs.declared.machine.Stack.{Stack}
 use Rattle.worksheet.specs.declared.machine.Stepped.{Stepped}
 use Rattle.worksheet.specs.TopLast.{applyLast}

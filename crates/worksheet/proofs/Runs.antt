@@ -10,7 +10,7 @@ use lib.Dec.{eqb}
 use lib.ListN.{length, getD, length-append, length-reverse, length-reverseAux, getElem?}
 use lib.Seq.{take-at, drop-at, getD-at, set-at}
 use borrow.Author.Tests.{eqb-true, eq-eqb, lt-ltb, le-leb}
-use Rattle.overloads.specs.Signature.{Signature, reaches}
+use Rattle.rules.specs.Signature.{Signature, reaches}
 use Rattle.overloads.specs.Taking.{Takes}
 use Rattle.worksheet.specs.Tree.{Tree, Trees, leaf, call, none, more, nodes, nodesAll, lastLeaf, Known, KnownAll}
 use Rattle.worksheet.specs.Line.{Line, leafLine, conversionLine, callLine, unlessSame, conversions, callLines}

@@ -13,10 +13,10 @@ use lib.ListN.{length, getD, set, take, drop, length-set, length-reverse}
 use lib.Seq.{length-take-le, take-suc, take-suc-set, take-set-lt, take-take, getD-take}
 use borrow.Author.Tests.{lt-ltb, le-ltb, le-leb, lt-leb, eq-eqb, ne-eqb}
 use Rattle.domain.specs.Mask.{both, headOr}
-use Rattle.overloads.specs.Signature.{reaches}
-use Rattle.overloads.specs.Rule.{mostArguments, argumentsOf, signatureOf}
-use Rattle.overloads.specs.declared.rule.Rule.{Rule}
-use Rattle.overloads.proofs.Rules.{count-of}
+use Rattle.rules.specs.Signature.{reaches}
+use Rattle.rules.specs.Rule.{mostArguments, argumentsOf, signatureOf}
+use Rattle.rules.specs.declared.rule.Rule.{Rule}
+use Rattle.rules.proofs.Rules.{count-of}
 use Rattle.worksheet.specs.declared.machine.Run.the-variants.{Ended}
 use Rattle.worksheet.specs.declared.machine.Stack.{Stack}
 use Rattle.worksheet.specs.declared.machine.Stepped.{Stepped}
@@ -24,6 +24,10 @@ use Rattle.worksheet.specs.Line.{onlyIf}
 use Rattle.worksheet.specs.Machine.{mostOperands, convertible, same}
 use Rattle.worksheet.specs.TopLast.{pushLast, convertLast, applyLast}
 use Rattle.worksheet.specs.MachineStack.{ranLast, operandsOf, InBounds, Did, alikeFrom}
+
+-- a rule that counts no more arguments than its record holds has as many as it counts
+pub arity : (q : Rule) → q .count ≤ mostArguments → length (argumentsOf q) ≡ q .count
+arity q short = omega (arith, count-of q)
 
 -- the answer of a line that stops, with the stack as it was
 abbrev pub stop : Stack → Stepped
@@ -94,14 +98,14 @@ module _ (k : Stack) (fits : InBounds k) where
   module _ (q : Rule) (short : q .count ≤ mostArguments) (n : ℕ) where
     pub apply-miscounted : (q .count ≡ n → ⊥) → Did (applyLast n (operandsOf k) (some (signatureOf q))) (stop k)
     unfolding applyLast
-    apply-miscounted h = rw (count-of q short, ne-eqb (q .count) n h)
+    apply-miscounted h = rw (arity q short, ne-eqb (q .count) n h)
 
     module _ (right : q .count ≡ n) where
       applied-if : (r : Stepped) → Did (onlyIf (both (leb n (k .top)) (same (drop (k .top - n) (operandsOf k)) (argumentsOf q)))
           (pushLast (q .result) (take (k .top - n) (operandsOf k)))) r
           → Did (applyLast n (operandsOf k) (some (signatureOf q))) r
       unfolding applyLast
-      applied-if r h = rw (count-of q short, eq-eqb (q .count) n right, counted) h
+      applied-if r h = rw (arity q short, eq-eqb (q .count) n right, counted) h
 
       pub apply-short : k .top < n → Did (applyLast n (operandsOf k) (some (signatureOf q))) (stop k)
       apply-short h = applied-if (stop k) (rw (lt-leb n (k .top) h))

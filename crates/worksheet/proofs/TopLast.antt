@@ -10,7 +10,7 @@ use lib.ListN.{length, getD, set, take, drop, getElem?, length-reverse, length-d
 use lib.Seq.{split-at, set-split, append-snoc, take-at, drop-at, getD-at, set-at}
 use borrow.Author.Tests.{ltb-true, leb-true}
 use Rattle.domain.specs.Mask.{both}
-use Rattle.overloads.specs.Signature.{Signature}
+use Rattle.rules.specs.Signature.{Signature}
 use Rattle.worksheet.specs.Tree.{lastLeaf}
 use Rattle.worksheet.specs.Line.{Line, leafLine, conversionLine, callLine, onlyIf, lineOf}
 use Rattle.worksheet.specs.Machine.{Outcome, ended, stopped, mostOperands, push, convertible, convertAt, same, apply, next, stepIf, runBytesBy, step, runBytes}

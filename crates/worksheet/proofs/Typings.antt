@@ -10,7 +10,7 @@ use borrow.Author.Tests.{le-leb}
 use lib.ListN.{length, length-append}
 use Rattle.domain.specs.Domain.{firstUnknown}
 use Rattle.overloads.specs.Choice.{Choice, chosen, wrongCount, noneAfter, noneConcrete, resolve}
-use Rattle.overloads.specs.Functions.{functionCount, listingOf}
+use Rattle.functions.specs.Functions.{functionCount, listingOf}
 use Rattle.worksheet.specs.Tree.{Tree, Trees, leaf, call, none, more, count, nodes, nodesAll, Known, KnownAll}
 use Rattle.worksheet.specs.Line.{Line, callLine, conversions}
 use Rattle.worksheet.specs.Places.{inside, behind, starts}

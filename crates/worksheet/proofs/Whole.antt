@@ -9,7 +9,7 @@ use native.Mathlib.Decide.{decLt}
 use borrow.Author.Tests.{lt-ltb, le-ltb, lt-leb, le-leb}
 use lib.ListN.{length, getD, take, drop}
 use lib.Seq.{getD-take}
-use Rattle.overloads.specs.Functions.{functionCount, listingOf}
+use Rattle.functions.specs.Functions.{functionCount, listingOf}
 use Rattle.domain.specs.declared.refusal.Refusal.{Refusal}
 use Rattle.worksheet.specs.declared.sheet.Sheet.{Sheet}
 use Rattle.worksheet.specs.declared.stack.Stack.{Stack}

@@ -5,7 +5,7 @@ use Prim.Native.Nat.{ℕ}
 use lib.Dec.{leb}
 use lib.ListN.{length, drop}
 use Rattle.domain.specs.Mask.{choose}
-use Rattle.overloads.specs.Signature.{Signature}
+use Rattle.rules.specs.Signature.{Signature}
 use Rattle.domain.specs.declared.refusal.Refusal.the-variants.{NoRoom}
 use Rattle.worksheet.specs.Tree.{Tree}
 use Rattle.worksheet.specs.Line.{encode}

@@ -4,7 +4,7 @@ use mathlib.Core.Bool.{Bool}
 use mathlib.Core.List.{List}
 use Prim.Native.Nat.{ℕ}
 use lib.ListN.{getD}
-use Rattle.overloads.specs.Signature.{Signature}
+use Rattle.rules.specs.Signature.{Signature}
 use Rattle.overloads.specs.Choice.{wrongCount, noneAfter, noneConcrete}
 use Rattle.overloads.specs.Taking.{Says}
 use Rattle.domain.specs.declared.refusal.Refusal.{Refusal}

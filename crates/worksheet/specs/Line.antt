@@ -6,7 +6,7 @@ use Prim.Native.Nat.{ℕ}
 use lib.Dec.{eqb}
 use lib.ListN.{length}
 use Rattle.domain.specs.Mask.{choose, both}
-use Rattle.overloads.specs.Signature.{Signature}
+use Rattle.rules.specs.Signature.{Signature}
 use Rattle.worksheet.specs.Tree.{Leaf}
 
 -- a leaf; a conversion: depth from the top of the stack, type; a call: function, index in the full listing, number of arguments

@@ -6,7 +6,7 @@ use Prim.Native.Nat.{ℕ, suc}
 use lib.Dec.{leb, ltb, eqb}
 use lib.ListN.{length, getD, set, take, drop, getElem?}
 use Rattle.domain.specs.Mask.{both}
-use Rattle.overloads.specs.Signature.{Signature, reaches}
+use Rattle.rules.specs.Signature.{Signature, reaches}
 use Rattle.worksheet.specs.Tree.{lastLeaf}
 use Rattle.worksheet.specs.Line.{Line, leafLine, conversionLine, callLine, onlyIf, lineOf}
 

@@ -7,8 +7,8 @@ use mathlib.Core.Option.{Option, none, some}
 use Prim.Native.Nat.{ℕ, _-_, _≤_}
 use lib.Dec.{leb}
 use lib.ListN.{length, take, drop}
-use Rattle.overloads.specs.Rule.{argumentsOf}
-use Rattle.overloads.specs.declared.rule.Rule.{Rule}
+use Rattle.rules.specs.Rule.{argumentsOf}
+use Rattle.rules.specs.declared.rule.Rule.{Rule}
 use Rattle.worksheet.specs.declared.machine.Run.{Run}
 use Rattle.worksheet.specs.declared.machine.Stack.{Stack}
 use Rattle.worksheet.specs.declared.machine.Stepped.{Stepped}

@@ -5,7 +5,7 @@
 use mathlib.Core.Bool.{Bool}
 use mathlib.Core.List.{List, [], _∷_, _++_}
 use Prim.Native.Nat.{ℕ}
-use Rattle.overloads.specs.Signature.{Signature}
+use Rattle.rules.specs.Signature.{Signature}
 use Rattle.overloads.specs.Taking.{NoRule, Best}
 use Rattle.worksheet.specs.Tree.{Leaf, Tree, Trees, leaf, call, none, more, count}
 use Rattle.worksheet.specs.Line.{Line, leafLine, conversionLine, callLine, callLines}

@@ -8,9 +8,9 @@ use Rattle.domain.specs.Paper.{Paper, scalarPaper}
 use Rattle.domain.specs.Conversion.{consensusOf}
 use Rattle.domain.specs.declared.conversion.Base.{Base}
 use Rattle.domain.specs.declared.conversion.Base.the-variants as base
-use Rattle.overloads.specs.Functions.{functionCount, listingOf}
+use Rattle.functions.specs.Functions.{functionCount, listingOf}
 use Rattle.overloads.specs.Call.{callOf, survivorsOfCall}
-use Rattle.overloads.specs.SetPaper.{callPaper, survivorsPaper}
+use Rattle.overloads.specs.CallPaper.{callPaper, survivorsPaper}
 use Rattle.worksheet.specs.Answer.{enoughBytes}
 use Rattle.worksheet.specs.Typing.{typing, answerOf, typePaper}
 

@@ -9,10 +9,10 @@ use lib.ListN.{length, getD, drop}
 use Rattle.domain.specs.Mask.{choose}
 use Rattle.domain.specs.Refusal.{numberOf, placeOf}
 use Rattle.domain.specs.Domain.{firstUnknown}
-use Rattle.overloads.specs.Rule.{argumentsOf}
+use Rattle.rules.specs.Rule.{argumentsOf}
 use Rattle.overloads.specs.Choice.{resolve}
-use Rattle.overloads.specs.Functions.{functionCount, listingOf}
-use Rattle.overloads.specs.declared.rule.Rule.{Rule}
+use Rattle.functions.specs.Functions.{functionCount, listingOf}
+use Rattle.rules.specs.declared.rule.Rule.{Rule}
 use Rattle.domain.specs.declared.refusal.Refusal.{Refusal}
 use Rattle.domain.specs.declared.refusal.Refusal.the-variants.{EmptySet, WrongCount, NoRuleLeft, NoRoom}
 use Rattle.worksheet.specs.declared.sheet.Sheet.{Sheet}

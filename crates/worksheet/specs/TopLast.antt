@@ -5,7 +5,7 @@ use Prim.Native.Nat.{ℕ, suc, _-_}
 use lib.Dec.{leb, ltb, eqb}
 use lib.ListN.{length, getD, set, take, drop, getElem?}
 use Rattle.domain.specs.Mask.{both}
-use Rattle.overloads.specs.Signature.{Signature}
+use Rattle.rules.specs.Signature.{Signature}
 use Rattle.worksheet.specs.Tree.{lastLeaf}
 use Rattle.worksheet.specs.Line.{leafLine, conversionLine, callLine, onlyIf}
 use Rattle.worksheet.specs.Machine.{mostOperands, convertible, same, Stepper}

@@ -4,8 +4,8 @@ use mathlib.Core.Bool.{Bool}
 use mathlib.Core.List.{List, [], _∷_}
 use Prim.Native.Nat.{ℕ}
 use Rattle.domain.specs.Paper.{Paper, accepted, refused}
-use Rattle.overloads.specs.Signature.{Signature}
-use Rattle.overloads.specs.Functions.{functionCount, listingOf}
+use Rattle.rules.specs.Signature.{Signature}
+use Rattle.functions.specs.Functions.{functionCount, listingOf}
 use Rattle.worksheet.specs.declared.typer.TypeAnswer.{TypeAnswer}
 use Rattle.worksheet.specs.declared.typer.TypeAnswer.the-variants.{Typed, Refused}
 use Rattle.worksheet.specs.Reading.{Expression, read, refusedAs, expressionOf}
@@ -21,7 +21,7 @@ afterReading listing switch buffer (refusedAs fault) = typer.refused fault
 unfoldable pub typingOf : ℕ → (ℕ → List Signature) → Bool → List ℕ → List ℕ → typer.Typed
 typingOf functions listing switch s buffer = afterReading listing switch buffer (expressionOf functions s)
 
--- with the functions of the crate `overloads`
+-- with the functions of the crate `functions`
 abbrev pub typing : Bool → List ℕ → List ℕ → typer.Typed
 typing switch s buffer = typingOf functionCount listingOf switch s buffer
 

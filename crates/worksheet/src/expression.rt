@@ -8,12 +8,12 @@
 ghost use mathlib.Core.Path.{_≡_};
 ghost use Prim.Native.Nat.{_<_};
 ghost use lib.ListN.{length};
-ghost use Rattle.overloads.specs.Functions.{functionCount};
+ghost use Rattle.functions.specs.Functions.{functionCount};
 ghost use Rattle.worksheet.specs.Tree.{mostNodes};
 ghost use Rattle.worksheet.specs.Reading.{leafAt, argsAt, nodeAt, expressionOf};
 ghost use Rattle.worksheet.specs.FirstPass.{levelsLeft, stepOf, stepOfAll, readOf};
 use domain::Refusal;
-use overloads::FUNCTION_COUNT;
+use functions::FUNCTION_COUNT;
 
 // An expression has at most so many nodes.
 pub(crate) const MOST_NODES: usize = 64;

@@ -10,8 +10,8 @@ ghost use mathlib.Core.Option.{some};
 ghost use Prim.Native.Nat.{_≤_};
 ghost use lib.Dec.{eqb};
 ghost use lib.ListN.{getElem?};
-ghost use Rattle.overloads.specs.Rule.{mostArguments, signatureOf};
-ghost use Rattle.overloads.specs.Functions.{listingOf};
+ghost use Rattle.rules.specs.Rule.{mostArguments, signatureOf};
+ghost use Rattle.functions.specs.Functions.{listingOf};
 ghost use Rattle.worksheet.specs.Line.{lineOf};
 ghost use Rattle.worksheet.specs.Machine.{stepIf, runBytes};
 ghost use Rattle.worksheet.specs.TopLast.{pushLast, convertLast, applyLast, stepLast};
@@ -23,10 +23,10 @@ use crate::line::CONVERSION_LINE;
 use crate::line::LEAF_LINE;
 use crate::line::LINE;
 use crate::line::SPARE;
-use overloads::Rule;
-use overloads::RuleAnswer;
-use overloads::reaches;
-use overloads::rule_at;
+use functions::rule_at;
+use rules::Rule;
+use rules::RuleAnswer;
+use rules::reaches;
 
 // The stack holds at most so many operands.
 const MOST_OPERANDS: usize = 64;

@@ -2,7 +2,7 @@
 // the call's own line, and the result in place of the operands; or the refusal, with its place in the expression.
 
 ghost use mathlib.Core.Path.{_≡_};
-ghost use Rattle.overloads.specs.Rule.{argumentsOf};
+ghost use Rattle.rules.specs.Rule.{argumentsOf};
 ghost use Rattle.worksheet.specs.Line.{encode, conversions};
 ghost use Rattle.worksheet.specs.Sheet.{Wrote};
 ghost use Rattle.worksheet.specs.SecondPass.{Within, placedAt, ConversionRoom, CallThere, CallTyped};
@@ -16,8 +16,8 @@ use crate::sheet::Sheet;
 use crate::stack::Stack;
 use domain::Refusal;
 use overloads::CallAnswer;
-use overloads::Rule;
 use overloads::call_of;
+use rules::Rule;
 
 // The numbers of the two refusals of a single call that say something of its operands.
 const WRONG_COUNT: u8 = 5;

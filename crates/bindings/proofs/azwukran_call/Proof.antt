@@ -2,7 +2,7 @@
 -- Assumes nothing.
 use mathlib.Core.Path.{sym, _∙_}
 use Rattle.bindings.specs.Packing.{callPacked}
-use Rattle.overloads.specs.SetPaper.{callPaper}
+use Rattle.overloads.specs.CallPaper.{callPaper}
 use Rattle.overloads.specs.declared.call.CallAnswer.{CallAnswer}
 use Rattle.bindings.proofs.Answers.{packs}
 use borrow.Author.Needs.{needs}

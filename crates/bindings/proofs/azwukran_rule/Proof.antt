@@ -2,8 +2,8 @@
 -- Assumes nothing.
 use mathlib.Core.Path.{ap, _∙_}
 use Rattle.bindings.specs.Packing.{rulePacked}
-use Rattle.overloads.specs.SetPaper.{rulePaper}
-use Rattle.overloads.specs.declared.rule.RuleAnswer.{RuleAnswer}
+use Rattle.rules.specs.SetPaper.{rulePaper}
+use Rattle.rules.specs.declared.rule.RuleAnswer.{RuleAnswer}
 use borrow.Author.Needs.{needs}
 use Rattle.bindings.proofs.azwukran_rule.Statement.{statement}
 use Rattle.bindings.proofs.azwukran_rule.Tie as tie

@@ -4,7 +4,7 @@
 use mathlib.Core.Path.{sym, _∙_}
 use native.Mathlib.Omega.{arith}
 use Rattle.bindings.specs.Packing.{runPacked}
-use Rattle.overloads.specs.Functions.{listingOf}
+use Rattle.functions.specs.Functions.{listingOf}
 use Rattle.bindings.proofs.Operands.{few-left}
 use Rattle.bindings.proofs.Answers.{packs}
 use borrow.Author.Needs.{needs}

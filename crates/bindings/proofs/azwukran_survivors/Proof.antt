@@ -3,7 +3,7 @@
 -- Assumes nothing.
 use mathlib.Core.Path.{sym, _∙_, refl}
 use Rattle.bindings.specs.Packing.{survivorsPacked}
-use Rattle.overloads.specs.SetPaper.{survivorsPaper}
+use Rattle.overloads.specs.CallPaper.{survivorsPaper}
 use Rattle.overloads.specs.declared.call.Survivors.{Survivors}
 use Rattle.bindings.proofs.Answers.{packs}
 use borrow.Author.Needs.{needs}

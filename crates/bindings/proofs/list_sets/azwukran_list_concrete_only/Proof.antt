@@ -2,7 +2,7 @@
 -- Assumes nothing.
 use Rattle.bindings.specs.Packing.{membersPacked}
 use Rattle.overloads.specs.List.{listStep, refusedList}
-use Rattle.overloads.specs.declared.rule.Keep.the-variants.{Concrete}
+use Rattle.rules.specs.declared.rule.Keep.the-variants.{Concrete}
 use Rattle.bindings.proofs.Answers.{packs-refused, packs-accepted}
 use borrow.Author.Needs.{needs}
 use Rattle.bindings.proofs.list_sets.azwukran_list_concrete_only.Statement.{statement}

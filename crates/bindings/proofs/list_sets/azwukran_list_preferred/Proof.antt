@@ -2,7 +2,7 @@
 -- Assumes nothing.
 use Rattle.bindings.specs.Packing.{callPacked}
 use Rattle.overloads.specs.List.{listPreferred}
-use Rattle.overloads.specs.SetPaper.{chosenPaper}
+use Rattle.overloads.specs.CallPaper.{chosenPaper}
 use Rattle.overloads.specs.declared.list.ChosenAnswer.{ChosenAnswer}
 use Rattle.overloads.specs.declared.list.ChosenAnswer.the-variants.{Refused}
 use Rattle.bindings.proofs.Answers.{packs-refused, packs-accepted}

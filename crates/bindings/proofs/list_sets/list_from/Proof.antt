@@ -8,7 +8,7 @@ use lib.ListN.{length}
 use borrow.Author.Tests.{eq-eqb, ne-eqb}
 use Rattle.domain.specs.declared.answer.Verdict.the-variants.{Accepted}
 use Rattle.overloads.specs.List.{acceptedList, refusedList}
-use Rattle.overloads.specs.declared.rule.Rule.{Rule}
+use Rattle.rules.specs.declared.rule.Rule.{Rule}
 use Rattle.bindings.specs.Sets.{listFrom}
 use borrow.Author.Needs.{needs}
 use Rattle.bindings.proofs.list_sets.list_from.Statement.{statement}

@@ -1,8 +1,7 @@
 -- `pack_chosen` meets its contract: the answer is packed, case by case, as its paper says.
 -- Assumes nothing.
-use mathlib.Core.Path.{ap, _∙_}
 use Rattle.bindings.specs.Packing.{callPacked}
-use Rattle.overloads.specs.SetPaper.{chosenPaper}
+use Rattle.overloads.specs.CallPaper.{chosenPaper}
 use Rattle.overloads.specs.declared.list.ChosenAnswer.{ChosenAnswer}
 use Rattle.bindings.proofs.Answers.{packs}
 use borrow.Author.Needs.{needs}

@@ -3,7 +3,8 @@
 use Rattle.domain.specs.Refusal.{numberOf}
 use Rattle.domain.specs.declared.answer.Verdict.{Verdict}
 use Prim.Native.Nat.{_+_}
-use Rattle.overloads.specs.List.{onVerdict, refusedList}
+use Rattle.rules.specs.Verdict.{onVerdict}
+use Rattle.overloads.specs.List.{refusedList}
 use Rattle.bindings.proofs.Answers.{packs}
 use borrow.Author.Needs.{needs}
 use Rattle.bindings.proofs.packing.pack_members.Statement.{statement}

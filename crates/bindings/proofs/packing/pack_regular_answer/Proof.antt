@@ -4,8 +4,8 @@ use mathlib.Core.Path.{ap, _∙_}
 use mathlib.Core.List.{[], _∷_}
 use Prim.Native.Nat.{ℕ}
 use Rattle.bindings.specs.Packing.{regularPacked}
-use Rattle.overloads.specs.SetPaper.{regularPaper}
-use Rattle.overloads.specs.declared.regular.RegularAnswer.{RegularAnswer}
+use Rattle.rules.specs.SetPaper.{regularPaper}
+use Rattle.rules.specs.declared.regular.RegularAnswer.{RegularAnswer}
 use Rattle.bindings.proofs.Answers.{packs}
 use borrow.Author.Needs.{needs}
 use Rattle.bindings.proofs.packing.pack_regular_answer.Statement.{statement}

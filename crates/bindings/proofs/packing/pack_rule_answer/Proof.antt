@@ -3,8 +3,8 @@
 use mathlib.Core.Path.{ap, ap₂, _∙_}
 use Prim.Native.Nat.{ℕ}
 use Rattle.bindings.specs.Packing.{twoHalves, fourBytes, atMost, rulePacked}
-use Rattle.overloads.specs.SetPaper.{rulePaper}
-use Rattle.overloads.specs.declared.rule.RuleAnswer.{RuleAnswer}
+use Rattle.rules.specs.SetPaper.{rulePaper}
+use Rattle.rules.specs.declared.rule.RuleAnswer.{RuleAnswer}
 use Rattle.bindings.proofs.Answers.{packs}
 use borrow.Author.Needs.{needs}
 use Rattle.bindings.proofs.packing.pack_rule_answer.Statement.{statement}

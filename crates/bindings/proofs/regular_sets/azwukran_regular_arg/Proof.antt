@@ -2,11 +2,11 @@
 -- Assumes nothing.
 use mathlib.Core.Path.{sym, ap, _∙_}
 use Rattle.bindings.specs.Packing.{regularPacked}
-use Rattle.overloads.specs.SetPaper.{regularPaper}
+use Rattle.rules.specs.SetPaper.{regularPaper}
 use Rattle.bindings.specs.Sets.{onRegular}
-use Rattle.overloads.specs.Regular.{regularArg}
-use Rattle.overloads.specs.declared.regular.RegularAnswer.{RegularAnswer}
-use Rattle.overloads.specs.declared.regular.RegularAnswer.the-variants as regular
+use Rattle.rules.specs.Regular.{regularArg}
+use Rattle.rules.specs.declared.regular.RegularAnswer.{RegularAnswer}
+use Rattle.rules.specs.declared.regular.RegularAnswer.the-variants as regular
 use Rattle.bindings.proofs.Answers.{packs}
 use borrow.Author.Needs.{needs}
 use Rattle.bindings.proofs.regular_sets.azwukran_regular_arg.Statement.{statement}

@@ -2,13 +2,13 @@
 -- Assumes nothing.
 use mathlib.Core.Path.{sym, ap, _∙_}
 use Rattle.bindings.specs.Packing.{rulePacked}
-use Rattle.overloads.specs.SetPaper.{rulePaper}
-use Rattle.overloads.specs.declared.rule.RuleAnswer.{RuleAnswer}
-use Rattle.overloads.specs.declared.rule.RuleAnswer.the-variants as rule
+use Rattle.rules.specs.SetPaper.{rulePaper}
+use Rattle.rules.specs.declared.rule.RuleAnswer.{RuleAnswer}
+use Rattle.rules.specs.declared.rule.RuleAnswer.the-variants as rule
 use Rattle.bindings.specs.Sets.{onRegular, listedAt}
-use Rattle.overloads.specs.Regular.{regularListing}
-use Rattle.overloads.specs.declared.regular.RegularAnswer.{RegularAnswer}
-use Rattle.overloads.specs.declared.regular.Regular.{Regular}
+use Rattle.rules.specs.Regular.{regularListing}
+use Rattle.rules.specs.declared.regular.RegularAnswer.{RegularAnswer}
+use Rattle.rules.specs.declared.regular.Regular.{Regular}
 use Rattle.bindings.proofs.Answers.{packs}
 use borrow.Author.Needs.{needs}
 use Rattle.bindings.proofs.regular_sets.azwukran_regular_rule.Statement.{statement}

@@ -2,7 +2,7 @@
 -- Assumes nothing.
 use mathlib.Core.Path.{refl}
 use native.Mathlib.Omega.{arith}
-use Rattle.overloads.proofs.Runs.{last-at, none-of}
+use Rattle.functions.proofs.Runs.{last-at, none-of}
 use Rattle.bindings.specs.Sets.{conclusions}
 use borrow.Author.Needs.{needs}
 use Rattle.bindings.proofs.regular_sets.conclusion_of.Statement.{statement}

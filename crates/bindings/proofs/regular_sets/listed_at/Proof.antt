@@ -4,9 +4,8 @@ use mathlib.Core.Path.{_≡_, sym, ap, _∙_}
 use native.Mathlib.Omega.{arith}
 use lib.ListN.{length}
 use Rattle.domain.proofs.Masks.{mapped-long}
-use Rattle.domain.specs.declared.answer.CountAnswer.{CountAnswer}
-use Rattle.overloads.specs.declared.listing.Listing.{Listing}
-use Rattle.overloads.proofs.Records.{zeroRule}
+use Rattle.rules.specs.declared.listing.Listing.{Listing}
+use Rattle.rules.proofs.Records.{zeroRule}
 use Rattle.bindings.proofs.ListedRules.{listing-few, at-refused, at-unknown, at-listed}
 use borrow.Author.Needs.{needs}
 use Rattle.bindings.proofs.regular_sets.listed_at.Statement.{statement}

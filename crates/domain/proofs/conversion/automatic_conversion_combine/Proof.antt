@@ -1,8 +1,7 @@
 -- `automatic_conversion_combine` meets its contract.
 -- Assumes nothing.
-use mathlib.Core.Path.{sym, _∙_, ap}
 use borrow.Author.Tests.{lt-ltb, le-ltb, eq-eqb, ne-eqb}
-use Rattle.domain.specs.Conversion.{combineOf, combinedTo}
+use Rattle.domain.specs.Conversion.{combineOf}
 use borrow.Author.Needs.{needs}
 use Rattle.domain.proofs.conversion.automatic_conversion_combine.Statement.{statement}
 use Rattle.domain.proofs.conversion.automatic_conversion_combine.Tie as tie

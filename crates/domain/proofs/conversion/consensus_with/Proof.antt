@@ -1,6 +1,5 @@
 -- `consensus_with` meets its contract.
 -- Assumes nothing.
-use mathlib.Core.Path.{sym, _∙_}
 use borrow.Author.Tests.{lt-ltb, le-ltb}
 use Rattle.domain.specs.Conversion.{consensusWith}
 use borrow.Author.Needs.{needs}

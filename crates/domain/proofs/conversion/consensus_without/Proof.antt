@@ -1,6 +1,6 @@
 -- `consensus_without` meets its contract: a list that is not empty has a first component, and the rest behind it.
 -- Assumes nothing.
-use mathlib.Core.Path.{sym, ap, _∙_}
+use mathlib.Core.Path.{_∙_}
 use borrow.Author.Tests.{lt-ltb, le-ltb}
 use Rattle.domain.specs.Conversion.{consensusWithout}
 use Rattle.domain.proofs.Combinations.{first-none, first-without, first-agrees}

@@ -1,6 +1,6 @@
 -- `type_parts` meets its contract: each range of codes in turn.
 -- Assumes nothing.
-use borrow.Author.Tests.{lt-ltb, le-ltb, le-leb, lt-leb, eq-eqb, ne-eqb}
+use borrow.Author.Tests.{lt-ltb, le-ltb, le-leb, lt-leb, ne-eqb}
 use Rattle.domain.specs.TypeCode.{partsOf}
 use borrow.Author.Needs.{needs}
 use Rattle.domain.proofs.type_code.type_parts.Statement.{statement}

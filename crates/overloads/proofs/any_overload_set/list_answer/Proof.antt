@@ -1,6 +1,6 @@
 -- `list_answer` meets its contract.
 -- Assumes nothing.
-use mathlib.Core.Path.{_≡_, ap}
+use mathlib.Core.Path.{ap}
 use Rattle.overloads.specs.declared.any_overload_set.AnyOverloadSet.{AnyOverloadSet}
 use borrow.Author.Needs.{needs}
 use Rattle.overloads.proofs.any_overload_set.list_answer.Statement.{statement}

@@ -1,6 +1,6 @@
 -- `regular_answer` meets its contract.
 -- Assumes nothing.
-use mathlib.Core.Path.{_≡_, ap}
+use mathlib.Core.Path.{ap}
 use Rattle.domain.specs.declared.answer.Verdict.the-variants as verdict
 use Rattle.overloads.specs.declared.any_overload_set.AnyOverloadSet.{AnyOverloadSet}
 use borrow.Author.Needs.{needs}

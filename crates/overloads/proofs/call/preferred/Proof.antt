@@ -5,7 +5,7 @@ use Prim.Native.Nat.{_<_}
 use lib.Count.{trailingZeros}
 use native.Mathlib.Omega.{arith}
 use Rattle.overloads.specs.Call.{placed}
-use Rattle.overloads.proofs.Regulars.{lowest-known}
+use Rattle.rules.proofs.Regulars.{lowest-known}
 use Rattle.overloads.proofs.RegularResolving.{preferred-none, preferred-some}
 use borrow.Author.Needs.{needs}
 use Rattle.overloads.proofs.call.preferred.Statement.{statement}
@@ -25,20 +25,20 @@ returns c = preferred-none _ _ (sym (c .before .holds-none .ensures) ∙ c .if1 
 place-requires : tie.Need-place-requires
 place-requires c κs = (c .before .before .before .before .pre .0, lowest c .0, lowest c .1)
 
-cast-rule : tie.Need-cast-rule
-cast-rule c = omega (arith, lowest (c .before) .0)
+cast-rule-of : tie.Need-cast-rule-of
+cast-rule-of c = omega (arith, lowest (c .before) .0)
 
-mul-rule : tie.Need-mul-rule
-mul-rule c = omega (arith, lowest (c .before) .0)
+mul-rule-of : tie.Need-mul-rule-of
+mul-rule-of c = omega (arith, lowest (c .before) .0)
 
-cast-rule-2 : tie.Need-cast-rule-2
-cast-rule-2 c = omega (arith, lowest (c .before) .1)
+cast-rule-of-2 : tie.Need-cast-rule-of-2
+cast-rule-of-2 c = omega (arith, lowest (c .before) .1)
 
-add-rule : tie.Need-add-rule
-add-rule c = omega (arith, lowest (c .before) .0, lowest (c .before) .1)
+add-rule-of : tie.Need-add-rule-of
+add-rule-of c = omega (arith, lowest (c .before) .0, lowest (c .before) .1)
 
-rule-requires : tie.Need-rule-requires
-rule-requires c κs = (c .before .before .before .before .before .pre .0 .arity, omega (arith, lowest (c .before) .0, lowest (c .before) .1))
+rule-of-requires : tie.Need-rule-of-requires
+rule-of-requires c κs = search needs
 
 enum-known-why : tie.Need-enum-known-why
 enum-known-why c = search needs
@@ -47,10 +47,10 @@ enum-known-rule : tie.Need-enum-known-rule
 enum-known-rule c = search needs
 
 returns-2 : tie.Need-returns-2
-returns-2 c = sym (ap (placed _) (sym (c .before .before .before .rule .ensures) ∙ c .before .why .given .1)) ∙ preferred-some _ _ (c .before .before .before .before .before .before .before .before .before .pre .1) (sym (c .before .before .before .before .before .before .before .before .holds-none .ensures) ∙ c .before .before .before .before .before .before .before .if1 .left)
+returns-2 c = sym (ap (placed _) (sym (c .before .before .before .rule-of .ensures) ∙ c .before .why .given .1)) ∙ preferred-some _ _ (c .before .before .before .before .before .before .before .before .before .pre .0) (c .before .before .before .before .before .before .before .before .before .pre .1) (sym (c .before .before .before .before .before .before .before .before .holds-none .ensures) ∙ c .before .before .before .before .before .before .before .if1 .left)
 
 returns-3 : tie.Need-returns-3
-returns-3 c = sym (ap₂ placed (sym (c .before .before .before .before .place .ensures)) (sym (c .before .before .before .rule .ensures) ∙ c .before .rule2 .given .1)) ∙ preferred-some _ _ (c .before .before .before .before .before .before .before .before .before .pre .1) (sym (c .before .before .before .before .before .before .before .before .holds-none .ensures) ∙ c .before .before .before .before .before .before .before .if1 .left)
+returns-3 c = sym (ap₂ placed (sym (c .before .before .before .before .place .ensures)) (sym (c .before .before .before .rule-of .ensures) ∙ c .before .rule .given .1)) ∙ preferred-some _ _ (c .before .before .before .before .before .before .before .before .before .pre .0) (c .before .before .before .before .before .before .before .before .before .pre .1) (sym (c .before .before .before .before .before .before .before .before .holds-none .ensures) ∙ c .before .before .before .before .before .before .before .if1 .left)
 
 pub preferred-spec : {M : Type 1} → statement M
 preferred-spec =
@@ -59,11 +59,11 @@ preferred-spec =
     holds-none-requires
     returns
     place-requires
-    cast-rule
-    mul-rule
-    cast-rule-2
-    add-rule
-    rule-requires
+    cast-rule-of
+    mul-rule-of
+    cast-rule-of-2
+    add-rule-of
+    rule-of-requires
     enum-known-why
     enum-known-rule
     returns-2

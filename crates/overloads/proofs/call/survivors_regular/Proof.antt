@@ -2,7 +2,7 @@
 -- Assumes nothing.
 use mathlib.Core.Path.{ap, _∙_}
 use mathlib.Core.List as L
-use Rattle.overloads.specs.Signature.{Signature}
+use Rattle.rules.specs.Signature.{Signature}
 use Rattle.overloads.specs.Call.{survivorsOf}
 use Rattle.overloads.proofs.ListCalls.{expanded-full}
 use Rattle.overloads.proofs.call.survivors_regular.Statement.{statement}

@@ -1,16 +1,29 @@
 -- `expand` meets its contract: the listing's first 63 records are the List's, where there are no more.
 -- Assumes nothing.
-use mathlib.Core.Path.{_≡_, sym, ap, _∙_}
+use mathlib.Core.Path.{_≡_, sym, _∙_}
+use Prim.Native.Nat.{_*_, _≤_}
 use native.Mathlib.Omega.{arith}
-use Rattle.overloads.specs.List.{acceptedList}
-use Rattle.overloads.specs.Regular.{Known}
+use lib.Count.{ones}
+use lib.ListN.{length}
+use Rattle.domain.specs.declared.answer.Verdict.the-variants.{Accepted}
+use Rattle.rules.specs.Regular.{regularVerdict, codesOf}
 use Rattle.overloads.specs.Expansion.{expanded}
-use Rattle.overloads.proofs.Regulars.{accepted-known}
-use Rattle.overloads.proofs.Listings.{found-count}
+use Rattle.rules.proofs.Regulars.{accepted-known, codes-count}
+use Rattle.rules.proofs.Listings.{codes-few}
 use Rattle.overloads.proofs.Expanding.{expand-many, expand-refused, expand-list}
 use borrow.Author.Needs.{needs}
 use Rattle.overloads.proofs.expansion.expand.Statement.{statement}
 use Rattle.overloads.proofs.expansion.expand.Tie as tie
+
+-- the set is accepted, and the product of its two counts is the number of its rules
+ok : (c : tie.After-enum-told) → regularVerdict (c .before .before .before .args .set) ≡ Accepted
+ok c = sym (c .before .before .verdict .ensures) ∙ c .enum-told .given .1
+
+many : (c : tie.After-enum-told) → ones (c .before .before .before .args .set .constructors .0) * ones (c .before .before .before .args .set .scalars .0) ≡ length (codesOf (c .before .before .before .args .set))
+many c = sym (codes-count (c .before .before .before .args .set) (accepted-known (c .before .before .before .args .set) (ok c)))
+
+few : (c : tie.After-enum-told) → ones (c .before .before .before .args .set .constructors .0) * ones (c .before .before .before .args .set .scalars .0) ≤ 156
+few c = omega (arith, many c, codes-few (c .before .before .before .args .set))
 
 verdict-requires : tie.Need-verdict-requires
 verdict-requires c κs = search needs
@@ -28,17 +41,20 @@ returns c = rw (sym (c .before .before .before .before .verdict .ensures) ∙ c 
 enum-told : tie.Need-enum-told
 enum-told c = search needs
 
-codes-requires : tie.Need-codes-requires
-codes-requires c κs = accepted-known (c .before .before .before .args .set) (sym (c .before .before .verdict .ensures) ∙ c .enum-told .given .1)
+mul-n : tie.Need-mul-n
+mul-n c = omega (arith, few (c .before .before))
+
+cast-n : tie.Need-cast-n
+cast-n c = omega (arith, few (c .before .before))
 
 refused-requires-2 : tie.Need-refused-requires-2
 refused-requires-2 c κs = search needs
 
 returns-2 : tie.Need-returns-2
-returns-2 c = c .refused2 .ensures ∙ expand-many (c .before .before .before .before .before .before .args .set) (sym (c .before .before .before .before .before .verdict .ensures) ∙ c .before .before .before .enum-told .given .1) (found-count (c .before .before .before .before .before .before .args .set) (c .before .before .codes .ensures)) (c .before .if1 .taken)
+returns-2 c = c .refused2 .ensures ∙ expand-many (c .before .before .before .before .before .before .before .args .set) (ok (c .before .before .before .before)) (many (c .before .before .before .before)) (c .before .if1 .taken)
 
-listed-requires : tie.Need-listed-requires
-listed-requires c κs = accepted-known (c .before .before .before .before .before .args .set) (sym (c .before .before .before .before .verdict .ensures) ∙ c .before .before .enum-told .given .1)
+overload-list-requires : tie.Need-overload-list-requires
+overload-list-requires c κs = search needs
 
 enum-known-answer : tie.Need-enum-known-answer
 enum-known-answer c = search needs
@@ -59,10 +75,10 @@ accepted-requires : tie.Need-accepted-requires
 accepted-requires c κs = search needs
 
 returns-3 : tie.Need-returns-3
-returns-3 c = c .refused3 .ensures ∙ expand-refused (c .before .before .before .before .before .before .before .before .before .before .before .args .set) (sym (c .before .before .before .before .before .before .before .before .before .before .verdict .ensures) ∙ c .before .before .before .before .before .before .before .before .enum-told .given .1) (found-count (c .before .before .before .before .before .before .before .before .before .before .before .args .set) (c .before .before .before .before .before .before .before .codes .ensures)) (c .before .before .before .before .before .before .if1 .left) _ (c .before .before .before .before .before .listed .ensures) _ (c .before .before .answer .given .1)
+returns-3 c = c .refused3 .ensures ∙ expand-refused (c .before .before .before .before .before .before .before .before .before .before .before .before .args .set) (ok (c .before .before .before .before .before .before .before .before .before)) (many (c .before .before .before .before .before .before .before .before .before)) (c .before .before .before .before .before .before .if1 .left) _ (c .before .before .before .before .before .overload-list .ensures) _ (c .before .before .answer .given .1)
 
 returns-4 : tie.Need-returns-4
-returns-4 c = c .accepted .ensures ∙ expand-list (c .before .before .before .before .before .before .before .before .before .before .before .before .args .set) (sym (c .before .before .before .before .before .before .before .before .before .before .before .verdict .ensures) ∙ c .before .before .before .before .before .before .before .before .before .enum-told .given .1) (found-count (c .before .before .before .before .before .before .before .before .before .before .before .before .args .set) (c .before .before .before .before .before .before .before .before .codes .ensures)) (c .before .before .before .before .before .before .before .if1 .left) _ (c .before .before .before .before .before .before .listed .ensures) _ (c .before .before .before .enum-told2 .given .1) _ _ (c .before .before .front .ensures) (c .before .full-mask .ensures)
+returns-4 c = c .accepted .ensures ∙ expand-list (c .before .before .before .before .before .before .before .before .before .before .before .before .before .args .set) (ok (c .before .before .before .before .before .before .before .before .before .before)) (many (c .before .before .before .before .before .before .before .before .before .before)) (c .before .before .before .before .before .before .before .if1 .left) _ (c .before .before .before .before .before .before .overload-list .ensures) _ (c .before .before .before .enum-told2 .given .1) _ _ (c .before .before .front .ensures) (c .before .full-mask .ensures)
 
 pub expand-spec : {M : Type 1} → statement M
 expand-spec =
@@ -73,10 +89,11 @@ expand-spec =
     refused-requires
     returns
     enum-told
-    codes-requires
+    mul-n
+    cast-n
     refused-requires-2
     returns-2
-    listed-requires
+    overload-list-requires
     enum-known-answer
     refused-requires-3
     enum-told-2

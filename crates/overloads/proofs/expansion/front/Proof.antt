@@ -1,17 +1,15 @@
 -- `front` meets its contract. The loop's invariant: the rules copied so far, followed by those that are left, are the first 63.
 -- Assumes nothing.
-use mathlib.Core.Path.{_≡_, sym, ap, _∙_}
-use mathlib.Core.List.{List}
-use Prim.Native.Nat.{ℕ, _+_, _-_, _≤_}
+use mathlib.Core.Path.{_≡_}
+use Prim.Native.Nat.{_-_, _≤_}
 use native.Mathlib.Omega.{arith}
-use lib.ListN.{length, take, drop, replicate, length-replicate, length-set}
+use lib.ListN.{length, take, drop, length-replicate, length-set}
 use lib.Seq.{sets}
 use borrow.Author.Needs.{needs}
-use Rattle.overloads.specs.Rule.{blankRule}
-use Rattle.overloads.specs.declared.rule.Rule.{Rule}
+use Rattle.rules.specs.Rule.{blankRule}
 use Rattle.domain.proofs.Masks.{mapped-long}
-use Rattle.overloads.proofs.Records.{zeroRule}
-use Rattle.overloads.proofs.Prefixes.{next, ended}
+use Rattle.rules.proofs.Records.{zeroRule}
+use Rattle.functions.proofs.Prefixes.{next, ended}
 use Rattle.domain.proofs.Fills.{fill-step, fill-end, filled-whole}
 use Rattle.overloads.proofs.expansion.front.Statement.{statement}
 use Rattle.overloads.proofs.expansion.front.Tie as tie

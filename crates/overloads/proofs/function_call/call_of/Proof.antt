@@ -1,12 +1,12 @@
 -- `call_of` meets its contract: each function's set is one that can be asked, and its rules are the listing.
 -- Assumes nothing.
-use mathlib.Core.Path.{_≡_, sym, ap, _∙_}
+use mathlib.Core.Path.{sym, ap, _∙_}
 use mathlib.Core.List.{List}
 use borrow.Author.Tests.{lt-ltb, le-ltb}
-use Rattle.overloads.specs.Signature.{Signature}
+use Rattle.rules.specs.Signature.{Signature}
 use Rattle.overloads.specs.Choice.{resolve}
 use Rattle.overloads.specs.Call.{callOf, answered}
-use Rattle.overloads.proofs.FunctionCalls.{callable, regular-listing, regular-few, full, list-listing, never-unknown}
+use Rattle.overloads.proofs.FunctionCalls.{callable, regular-listing, full, list-listing, never-unknown}
 use borrow.Author.Needs.{needs}
 use Rattle.overloads.proofs.function_call.call_of.Statement.{statement}
 use Rattle.overloads.proofs.function_call.call_of.Tie as tie

@@ -6,10 +6,10 @@ use lib.ListN.{length, take, drop}
 use borrow.Author.Needs.{needs}
 use borrow.Author.Tests.{not-true, not-false}
 use Rattle.domain.specs.Mask.{every}
-use Rattle.overloads.specs.Rule.{knownRule}
+use Rattle.rules.specs.Rule.{knownRule}
 use Rattle.domain.proofs.Masks.{mapped-long}
-use Rattle.overloads.proofs.Records.{zeroRule}
-use Rattle.overloads.proofs.Prefixes.{every-fails, every-next, every-ends}
+use Rattle.rules.proofs.Records.{zeroRule}
+use Rattle.functions.proofs.Prefixes.{every-fails, every-next, every-ends}
 use Rattle.overloads.proofs.list.all_known.Statement.{statement}
 use Rattle.overloads.proofs.list.all_known.Tie as tie
 

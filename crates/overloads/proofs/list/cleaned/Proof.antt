@@ -7,14 +7,13 @@ use native.Mathlib.Omega.{arith}
 use lib.ListN.{length, take, drop, length-set, length-map}
 use lib.Seq.{sets, length-take-le}
 use borrow.Author.Needs.{needs}
-use borrow.Author.Tests.{leb-true}
 use Rattle.domain.specs.Mask.{padded}
-use Rattle.overloads.specs.Rule.{blankRule, signatureOf, ruleOf, shortRule}
-use Rattle.overloads.specs.declared.rule.Rule.{Rule}
+use Rattle.rules.specs.Rule.{blankRule, signatureOf, ruleOf}
+use Rattle.rules.specs.declared.rule.Rule.{Rule}
 use Rattle.domain.proofs.Fills.{filled, fill-step, fill-end}
-use Rattle.overloads.proofs.Records.{zeroRule}
+use Rattle.rules.proofs.Records.{zeroRule}
 use Rattle.domain.proofs.Masks.{mapped-long}
-use Rattle.overloads.proofs.Prefixes.{next, ended, every-at}
+use Rattle.functions.proofs.Prefixes.{next, ended}
 use Rattle.overloads.proofs.list.cleaned.Statement.{statement}
 use Rattle.overloads.proofs.list.cleaned.Tie as tie
 
@@ -40,8 +39,7 @@ array-copy-out-rule : tie.Need-array-copy-out-rule Inv-loop μ-loop
 array-copy-out-rule c = omega arith
 
 cleaned-requires : tie.Need-cleaned-requires Inv-loop μ-loop
-unfolding shortRule
-cleaned-requires c κs = leb-true _ _ (every-at zeroRule shortRule _ _ _ (enough (c .before .before .before)) (c .before .loop-test .taken) (c .before .before .before .pre .1))
+cleaned-requires c κs = tt
 
 mul-out : tie.Need-mul-out Inv-loop μ-loop
 mul-out c = omega arith

@@ -9,10 +9,10 @@ use native.Mathlib.Omega.{arith}
 use lib.Count.{trailingZeros}
 use lib.ListN.{getD}
 use Rattle.domain.specs.Mask.{sift}
-use Rattle.overloads.specs.Rule.{passes}
+use Rattle.rules.specs.Rule.{passes}
 use Rattle.overloads.specs.List.{signatures, kept}
 use Rattle.domain.proofs.Masks.{gain, sift-le}
-use Rattle.overloads.proofs.Records.{zeroRule}
+use Rattle.rules.proofs.Records.{zeroRule}
 use Rattle.overloads.proofs.Lists.{Member, member}
 use Rattle.overloads.proofs.walks.filter.Statement.{statement}
 use Rattle.overloads.proofs.walks.filter.Tie as tie

@@ -6,7 +6,7 @@ use native.Mathlib.Omega.{arith}
 use lib.Count.{trailingZeros}
 use lib.ListN.{getD}
 use Rattle.overloads.specs.List.{preferredOf}
-use Rattle.overloads.proofs.Records.{zeroRule}
+use Rattle.rules.proofs.Records.{zeroRule}
 use Rattle.overloads.proofs.Lists.{Member, member, entries-none, preferred-first}
 use Rattle.overloads.proofs.walks.first.Statement.{statement}
 use Rattle.overloads.proofs.walks.first.Tie as tie

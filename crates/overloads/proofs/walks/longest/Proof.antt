@@ -7,10 +7,10 @@ use native.Mathlib.Omega.{arith}
 use lib.Count.{trailingZeros}
 use lib.ListN.{getD}
 use Rattle.domain.specs.Mask.{select}
-use Rattle.overloads.specs.Choice.{longest}
-use Rattle.overloads.specs.List.{signatures, listing, countOf}
+use Rattle.rules.specs.Verdict.{longest, countOf}
+use Rattle.overloads.specs.List.{signatures, listing}
 use Rattle.domain.specs.declared.answer.CountAnswer.the-variants.{Count}
-use Rattle.overloads.proofs.Records.{zeroRule}
+use Rattle.rules.proofs.Records.{zeroRule}
 use Rattle.overloads.proofs.Lists.{Member, member, none-left, listing-none, counted}
 use Rattle.overloads.proofs.walks.longest.Statement.{statement}
 use Rattle.overloads.proofs.walks.longest.Tie as tie

@@ -1,6 +1,6 @@
 -- `do_line` does the line that the four bytes spell, by its tag: each way through the function is a law of proofs/LinesDone.antt.
 -- Assumes nothing.
-use Rattle.overloads.specs.Functions.{listingOf}
+use Rattle.functions.specs.Functions.{listingOf}
 use Rattle.worksheet.proofs.LinesDone.{leaf-spare, leaf-spare-last, leaf-line, call-line, conversion-spare, conversion-line, unknown-line}
 use borrow.Author.Needs.{needs}
 use Rattle.worksheet.proofs.machine.do_line.Statement.{statement}

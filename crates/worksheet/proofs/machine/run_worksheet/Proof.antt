@@ -6,7 +6,7 @@ use Prim.Native.Nat.{_-_, _≤_}
 use native.Mathlib.Omega.{arith}
 use lib.ListN.{length, drop}
 use borrow.Author.Tests.{not-true, not-false}
-use Rattle.overloads.specs.Functions.{listingOf}
+use Rattle.functions.specs.Functions.{listingOf}
 use Rattle.worksheet.specs.Machine.{runBytesBy}
 use Rattle.worksheet.specs.TopLast.{stepLast}
 use Rattle.worksheet.specs.MachineStack.{operandsOf, InBounds}

@@ -8,7 +8,7 @@ use borrow.Author.Needs.{needs}
 use lib.ListN.{length}
 use Rattle.worksheet.specs.declared.sheet.Sheet.{Sheet}
 use Rattle.worksheet.specs.Answer.{enoughBytes}
-use Rattle.overloads.proofs.Records.{arguments-few}
+use Rattle.rules.proofs.Records.{arguments-few}
 use Rattle.worksheet.proofs.Conversions.{Leaves, leave-same, leave-line, leave-none}
 use Rattle.worksheet.proofs.one_call.convert.Statement.{statement}
 use Rattle.worksheet.proofs.one_call.convert.Tie as tie

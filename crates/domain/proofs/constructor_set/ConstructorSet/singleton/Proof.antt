@@ -1,6 +1,5 @@
 -- `ConstructorSet::singleton` meets its contract: a shift by the code's constructor.
 -- Assumes nothing.
-use mathlib.Core.Path.{sym, _∙_}
 use native.Mathlib.Omega.{arith}
 use borrow.Author.Tests.{lt-ltb, le-ltb}
 use Rattle.domain.specs.Constructor.{singletonOfCode}

@@ -1,7 +1,7 @@
 -- `ConstructorSize::to_inner` meets its contract: the size's constructor, then the code.
 -- Assumes nothing.
 use mathlib.Core.Path.{sym, _∙_}
-use Rattle.domain.specs.Constructor.{innerOf, codeFrom}
+use Rattle.domain.specs.Constructor.{innerOf}
 use borrow.Author.Needs.{needs}
 use Rattle.domain.proofs.constructor_set.ConstructorSize.to_inner.Statement.{statement}
 use Rattle.domain.proofs.constructor_set.ConstructorSize.to_inner.Tie as tie

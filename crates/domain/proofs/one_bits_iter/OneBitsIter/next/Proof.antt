@@ -1,6 +1,6 @@
 -- `OneBitsIter::next` meets its contract: the lowest bit's mask, and the word without it.
 -- Assumes nothing.
-use mathlib.Core.Path.{_≡_, sym, ap, ap₂, _∙_}
+use mathlib.Core.Path.{sym, ap, ap₂, _∙_}
 use Prim.Native.Nat.{ℕ, _*_, _%_, _^_}
 use native.Mathlib.Omega.{arith}
 use lib.Count.{trailingZeros}

@@ -3,7 +3,7 @@
 use mathlib.Core.Path.{sym}
 use native.Mathlib.Omega.{arith}
 use lib.Count.{trailing-le}
-use borrow.Author.Tests.{le-ltb, lt-ltb}
+use borrow.Author.Tests.{le-ltb}
 use Rattle.domain.specs.Mask.{bits}
 use Rattle.domain.specs.Scalar.{mostGeneral}
 use Rattle.domain.proofs.Scalars.{lowest}

@@ -3,7 +3,7 @@
 use mathlib.Core.Path.{ap, _∙_}
 use Rattle.overloads.specs.AnyOverloadSet.{anyConcrete, anyRegular, anyList}
 use Rattle.overloads.specs.List.{listStep}
-use Rattle.overloads.specs.declared.rule.Keep.the-variants.{Concrete}
+use Rattle.rules.specs.declared.rule.Keep.the-variants.{Concrete}
 use borrow.Author.Needs.{needs}
 use Rattle.overloads.proofs.any_overload_set.AnyOverloadSet.concrete_only.Statement.{statement}
 use Rattle.overloads.proofs.any_overload_set.AnyOverloadSet.concrete_only.Tie as tie

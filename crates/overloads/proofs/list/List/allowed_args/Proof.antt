@@ -2,7 +2,7 @@
 use mathlib.Core.Path.{_≡_, ap, _∙_}
 use lib.ListN.{length}
 use borrow.Author.Needs.{needs}
-use Rattle.overloads.specs.Listing.{refusedTypes}
+use Rattle.rules.specs.Listing.{refusedTypes}
 use Rattle.overloads.specs.List.{listAllowed, allowedOf}
 use Rattle.domain.proofs.Masks.{mapped-long}
 use Rattle.overloads.proofs.Verdicts.{on-refused, on-accepted, tested-valid, tested-listing}

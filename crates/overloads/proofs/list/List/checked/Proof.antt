@@ -4,18 +4,17 @@ use mathlib.Core.Bool.{true, false}
 use mathlib.Core.List as L
 use mathlib.Core.List.{map}
 use Prim.Native.Nat.{_^_}
-use native.Mathlib.Omega.{arith}
 use lib.Dec.{ltb}
 use lib.ListN.{length}
 use borrow.Author.Needs.{needs}
 use borrow.Author.Tests.{not-true, not-false, le-leb, lt-leb}
 use Rattle.domain.specs.Mask.{every, padded}
-use Rattle.overloads.specs.Rule.{blankRule, signatureOf, ruleOf, knownRule, shortRule}
+use Rattle.rules.specs.Rule.{blankRule, signatureOf, ruleOf, knownRule, shortRule}
 use Rattle.overloads.specs.List.{held, signatures, cleanList, acceptedList}
 use Rattle.overloads.specs.declared.list.List.{List}
-use Rattle.overloads.specs.declared.rule.Rule.{Rule}
+use Rattle.rules.specs.declared.rule.Rule.{Rule}
 use Rattle.domain.proofs.Masks.{mapped-long}
-use Rattle.overloads.proofs.Prefixes.{take-min}
+use Rattle.functions.proofs.Prefixes.{take-min}
 use Rattle.overloads.proofs.Verdicts.{checked-by}
 use Rattle.overloads.proofs.list.List.checked.Statement.{statement}
 use Rattle.overloads.proofs.list.List.checked.Tie as tie
@@ -76,7 +75,7 @@ returns-4 c =
     ∙ checked-by _ true true true false (all-known (c .before .before .before .before .before .before)) (all-within (c .before .before .before .before)) (le-leb _ _ (c .before .before .before .if3 .left)) (short (c .before .before) ∙ not-true _ (c .before .if4 .taken))
 
 cleaned-requires : tie.Need-cleaned-requires
-cleaned-requires c κs = (omega arith, sym (c .before .all-short .ensures) ∙ not-false _ (c .if4 .left))
+cleaned-requires c κs = search needs
 
 accepted-requires : tie.Need-accepted-requires
 accepted-requires c κs = search needs

@@ -4,7 +4,8 @@ use mathlib.Core.Path.{_≡_, sym, ap, _∙_}
 use native.Mathlib.Omega.{arith}
 use lib.ListN.{length}
 use borrow.Author.Needs.{needs}
-use Rattle.overloads.specs.List.{listEmpty, emptyOf}
+use Rattle.overloads.specs.List.{listEmpty}
+use Rattle.rules.specs.Verdict.{emptyOf}
 use Rattle.domain.specs.declared.answer.Test.the-variants.{Refused}
 use Rattle.domain.proofs.Masks.{mapped-long}
 use Rattle.overloads.proofs.Lists.{listing-none}

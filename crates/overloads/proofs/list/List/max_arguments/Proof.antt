@@ -2,7 +2,8 @@
 use mathlib.Core.Path.{_≡_, ap, _∙_}
 use lib.ListN.{length}
 use borrow.Author.Needs.{needs}
-use Rattle.overloads.specs.List.{listCount, countOf}
+use Rattle.overloads.specs.List.{listCount}
+use Rattle.rules.specs.Verdict.{countOf}
 use Rattle.domain.specs.declared.answer.CountAnswer.the-variants.{Refused}
 use Rattle.domain.proofs.Masks.{mapped-long}
 use Rattle.overloads.proofs.Verdicts.{on-refused, on-accepted, tested-valid, tested-listing}

@@ -2,7 +2,7 @@
 use mathlib.Core.Path.{_≡_, ap, _∙_}
 use lib.ListN.{length}
 use borrow.Author.Needs.{needs}
-use Rattle.overloads.specs.Listing.{acceptedListing, refusedListing}
+use Rattle.rules.specs.Listing.{acceptedListing, refusedListing}
 use Rattle.overloads.specs.List.{listListing}
 use Rattle.domain.proofs.Masks.{mapped-long}
 use Rattle.overloads.proofs.Verdicts.{on-refused, on-accepted, tested-valid, tested-listing}

@@ -1,0 +1,58 @@
+-- `rule_at` meets its contract: a case for each kind of set that a function has. Assumes nothing.
+use mathlib.Core.Path.{sym, _∙_}
+use native.Mathlib.Omega.{arith}
+use Rattle.functions.specs.Functions.{listedRules}
+use Rattle.functions.proofs.Indices.{rule-here, rule-past}
+use Rattle.functions.proofs.Database.{regular-built, rule-of-set}
+use borrow.Author.Needs.{needs}
+use Rattle.functions.proofs.full_listing.rule_at.Statement.{statement}
+use Rattle.functions.proofs.full_listing.rule_at.Tie as tie
+
+function-set-requires : tie.Need-function-set-requires
+function-set-requires c κs = search needs
+
+enum-known-set : tie.Need-enum-known-set
+enum-known-set c = search needs
+
+regular-rule-requires : tie.Need-regular-rule-requires
+regular-rule-requires c κs = regular-built (c .before .before .before .before .args .function) (sym (c .before .before .before .function-set .ensures) ∙ c .before .set .given .1)
+
+enum-known-listed : tie.Need-enum-known-listed
+enum-known-listed c = search needs
+
+rule-count-requires : tie.Need-rule-count-requires
+rule-count-requires c κs = search needs
+
+returns : tie.Need-returns
+returns c = sym (rule-of-set (c .before .before .before .before .before .before .args .function) (c .before .before .before .before .before .before .args .index) (sym (c .before .before .before .before .before .function-set .ensures) ∙ c .before .before .before .listed .given .1) ∙ rule-past (listedRules _) (c .before .before .before .before .before .before .args .index) (omega (arith, c .before .rule-count .ensures)))
+
+listed-rule-requires : tie.Need-listed-rule-requires
+listed-rule-requires c κs = search needs
+
+enum-told : tie.Need-enum-told
+enum-told c = search needs
+
+returns-2 : tie.Need-returns-2
+returns-2 c = c .regular-rule .ensures ∙ sym (rule-of-set (c .before .before .before .before .before .args .function) (c .before .before .before .before .before .args .index) (sym (c .before .before .before .before .function-set .ensures) ∙ c .before .before .set .given .1))
+
+returns-3 : tie.Need-returns-3
+returns-3 c = rw (c .listed-rule .ensures) (sym (rule-of-set (c .before .before .before .before .before .before .before .args .function) (c .before .before .before .before .before .before .before .args .index) (sym (c .before .before .before .before .before .before .function-set .ensures) ∙ c .before .before .before .before .listed .given .1) ∙ rule-here (listedRules _) (c .before .before .before .before .before .before .before .args .index) (omega (arith, c .before .before .rule-count .ensures))))
+
+returns-4 : tie.Need-returns-4
+returns-4 c = sym (rule-of-set (c .before .before .before .args .function) (c .before .before .before .args .index) (sym (c .before .before .function-set .ensures) ∙ c .enum-told .given .1))
+
+pub rule-at-spec : {M : Type 1} → statement M
+rule-at-spec =
+    tie.close
+    (tie.spec
+    function-set-requires
+    enum-known-set
+    regular-rule-requires
+    enum-known-listed
+    rule-count-requires
+    returns
+    listed-rule-requires
+    enum-told
+    returns-2
+    returns-3
+    returns-4)

@@ -1,0 +1,182 @@
+-- The 79 functions of `mathfunction.rs`, in its order and by its words: each function's overload set, and the full listing of its rules.
+use mathlib.Core.Path.{_≡_}
+use mathlib.Core.Bool.{Bool, true, not}
+use mathlib.Core.List as L
+use mathlib.Core.List.{[], _∷_, _++_}
+use Prim.Native.Nat.{ℕ, zero, suc, _<_}
+use lib.Dec.{eqb, ltb}
+use lib.ListN.{getD, replicate}
+use Rattle.domain.specs.Mask.{choose, both, either, filter, maskOf}
+use Rattle.domain.specs.Domain.{constructors, abstract?, integer?, float?, numeric?}
+use Rattle.rules.specs.Signature.{Signature}
+use Rattle.domain.specs.Scalar.{setOf}
+use Rattle.domain.specs.Constructor.{vector?}
+use Rattle.rules.specs.Rule.{ruleOf}
+use Rattle.rules.specs.Regular.{Known, regularRules, allConclude}
+use Rattle.functions.specs.Sequences.{floatScalars, concreteFloatScalars, concreteIntScalars, vectorSizes, vector, matrix, scalarOrVecn}
+use Rattle.domain.specs.declared.refusal.Refusal.the-variants.{Unknown}
+use Rattle.domain.specs.declared.constructor_set.ConstructorSet.{ConstructorSet}
+use Rattle.functions.specs.declared.mathfunction.FunctionSet.{FunctionSet}
+use Rattle.functions.specs.declared.mathfunction.FunctionSet.the-variants as set
+use Rattle.functions.specs.declared.mathfunction.Listed.{Listed}
+use Rattle.functions.specs.declared.mathfunction.Listed.the-variants.{Ldexp, Outer, Refract, Mix, Transpose, ExtractBits, InsertBits}
+use Rattle.rules.specs.declared.regular.ConclusionRule.{ConclusionRule}
+use Rattle.rules.specs.declared.regular.ConclusionRule.the-variants as to
+use Rattle.rules.specs.declared.regular.Regular.{Regular}
+use Rattle.rules.specs.declared.rule.RuleAnswer.{RuleAnswer}
+use Rattle.rules.specs.declared.rule.RuleAnswer.the-variants as answer
+
+abbrev pub functionCount : ℕ
+functionCount = 79
+
+-- ---- Regular sets: the arity, the constructors and the scalars that pass, and the conclusion
+
+abbrev pub constructorsThat : (ℕ → Bool) → ConstructorSet
+constructorsThat p = record { 0 = maskOf (filter p constructors) }
+
+abbrev pub regular : ℕ → (ℕ → Bool) → (ℕ → Bool) → ConclusionRule → FunctionSet
+regular n ks ss c = set.Regular (record { arity = n; constructors = constructorsThat ks; scalars = setOf ss; conclude = c })
+
+-- one constructor, or one scalar, alone
+abbrev pub scalar? : ℕ → Bool
+scalar? k = eqb k 0
+
+abbrev pub vec2? : ℕ → Bool
+vec2? k = eqb k 1
+
+abbrev pub vec3? : ℕ → Bool
+vec3? k = eqb k 2
+
+abbrev pub vec4? : ℕ → Bool
+vec4? k = eqb k 3
+
+abbrev pub i32? : ℕ → Bool
+i32? k = eqb k 2
+
+abbrev pub u32? : ℕ → Bool
+u32? k = eqb k 5
+
+abbrev pub f32? : ℕ → Bool
+f32? k = eqb k 8
+
+abbrev pub scalarOrVector? : ℕ → Bool
+scalarOrVector? k = either (scalar? k) (vector? k)
+
+-- MAT2X2, MAT3X3, MAT4X4
+abbrev pub square? : ℕ → Bool
+square? k = either (eqb k 4) (either (eqb k 8) (eqb k 12))
+
+abbrev pub concreteInteger? : ℕ → Bool
+concreteInteger? k = both (integer? k) (not (abstract? k))
+
+abbrev pub concreteFloat? : ℕ → Bool
+concreteFloat? k = both (float? k) (not (abstract? k))
+
+-- component by component: the result has the argument's type
+abbrev pub componentWise : ℕ → (ℕ → Bool) → FunctionSet
+componentWise n ss = regular n scalarOrVector? ss to.ArgumentType
+
+-- ---- Lists: rules by nested sequences, in order of preference
+
+-- what a function gives of each element in turn, in the manner of `flat_map`
+abbrev pub each : L.List ℕ → (ℕ → L.List Signature) → L.List Signature
+each [] f = []
+each (x ∷ xs) f = f x ++ each xs f
+
+abbrev pub rule : L.List ℕ → ℕ → L.List Signature
+rule az r = record { arguments = az; result = r } ∷ []
+
+-- two sequences side by side
+abbrev pub zip : L.List ℕ → L.List ℕ → (ℕ → ℕ → L.List Signature) → L.List Signature
+zip [] ys f = []
+zip (x ∷ xs) [] f = []
+zip (x ∷ xs) (y ∷ ys) f = f x y ++ zip xs ys f
+
+-- the exponent's scalar: ABSTRACT_INT for an abstract mantissa, else I32
+abbrev pub exponentOf : ℕ → ℕ
+exponentOf s = choose (abstract? s) 0 2
+
+-- offsets and counts of bits are U32
+abbrev pub u32 : ℕ
+u32 = 5
+
+-- Outer takes columns from its left operand; Transpose swaps columns and rows; Mix lists its scalar rules twice
+unfoldable pub listedRules : Listed → L.List Signature
+listedRules Ldexp =
+    each concreteFloatScalars (λ s. zip (scalarOrVecn s) (scalarOrVecn (exponentOf s)) (λ mantissa exponent.
+    rule (mantissa ∷ exponent ∷ []) mantissa))
+listedRules Outer =
+    each vectorSizes (λ columns. each vectorSizes (λ rows. each concreteFloatScalars (λ s.
+    rule (vector columns s ∷ vector rows s ∷ []) (matrix columns rows s))))
+listedRules Refract =
+    each vectorSizes (λ n. each concreteFloatScalars (λ s. rule (vector n s ∷ vector n s ∷ s ∷ []) (vector n s)))
+listedRules Mix =
+    each floatScalars (λ s. each (scalarOrVecn s) (λ input.
+    rule (input ∷ input ∷ input ∷ []) input ++ rule (input ∷ input ∷ s ∷ []) input))
+listedRules Transpose =
+    each vectorSizes (λ a. each vectorSizes (λ b. each floatScalars (λ s. rule (matrix a b s ∷ []) (matrix b a s))))
+listedRules ExtractBits =
+    each concreteIntScalars (λ s. each (scalarOrVecn s) (λ input. rule (input ∷ u32 ∷ u32 ∷ []) input))
+listedRules InsertBits =
+    each concreteIntScalars (λ s. each (scalarOrVecn s) (λ input. rule (input ∷ input ∷ u32 ∷ u32 ∷ []) input))
+
+-- ---- the functions, by number
+
+unfoldable pub functionSets : L.List FunctionSet
+functionSets =
+    -- Abs 0, Sign; Min 2, Max; Clamp 4
+    replicate 2 (componentWise 1 numeric?) ++ replicate 2 (componentWise 2 numeric?) ++ componentWise 3 numeric? ∷ []
+    -- Sin 5 to InverseSqrt; Atan2 31, Pow, Step; Fma 34, SmoothStep
+    ++ replicate 26 (componentWise 1 float?) ++ replicate 3 (componentWise 2 float?) ++ replicate 2 (componentWise 3 float?)
+    -- CountTrailingZeros 36 to FirstLeadingBit
+    ++ replicate 6 (componentWise 1 concreteInteger?)
+    -- Pack4x8snorm 42, Pack4x8unorm; Pack2x16snorm 44, Pack2x16unorm, Pack2x16float
+    ++ replicate 2 (regular 1 vec4? f32? to.U32) ++ replicate 3 (regular 1 vec2? f32? to.U32)
+    -- Pack4xI8 47, Pack4xU8, Pack4xI8Clamp, Pack4xU8Clamp
+    ++ regular 1 vec4? i32? to.U32 ∷ regular 1 vec4? u32? to.U32
+    ∷ regular 1 vec4? i32? to.U32 ∷ regular 1 vec4? u32? to.U32 ∷ []
+    -- Unpack4x8snorm 51, Unpack4x8unorm; Unpack2x16snorm 53, Unpack2x16unorm, Unpack2x16float
+    ++ replicate 2 (regular 1 scalar? u32? to.Vec4F) ++ replicate 3 (regular 1 scalar? u32? to.Vec2F)
+    -- Unpack4xI8 56, Unpack4xU8, Dot4I8Packed, Dot4U8Packed
+    ++ regular 1 scalar? u32? to.Vec4I ∷ regular 1 scalar? u32? to.Vec4U
+    ∷ regular 2 scalar? u32? to.I32 ∷ regular 2 scalar? u32? to.U32
+    -- Dot 60, Modf, Frexp, Ldexp, Outer, Cross
+    ∷ regular 2 vector? numeric? to.Scalar ∷ regular 1 scalarOrVector? concreteFloat? to.Modf
+    ∷ regular 1 scalarOrVector? concreteFloat? to.Frexp ∷ set.List Ldexp ∷ set.List Outer ∷ regular 2 vec3? float? to.ArgumentType
+    -- Distance 66, Length, Normalize, FaceForward, Reflect, Refract, Mix
+    ∷ regular 2 scalarOrVector? concreteFloat? to.Scalar ∷ regular 1 scalarOrVector? float? to.Scalar
+    ∷ regular 1 vector? float? to.ArgumentType ∷ regular 3 vector? concreteFloat? to.ArgumentType
+    ∷ regular 2 vector? concreteFloat? to.ArgumentType ∷ set.List Refract ∷ set.List Mix
+    -- Inverse 73, Transpose, Determinant, QuantizeToF16, ExtractBits, InsertBits 78
+    ∷ regular 1 square? float? to.ArgumentType ∷ set.List Transpose ∷ regular 1 square? float? to.Scalar
+    ∷ componentWise 1 f32? ∷ set.List ExtractBits ∷ set.List InsertBits ∷ []
+
+-- a number of 79 or above is no function
+unfoldable pub functionSetOf : ℕ → FunctionSet
+functionSetOf f = getD functionSets f set.Unknown
+
+-- ---- full listings
+
+abbrev pub rulesIn : FunctionSet → L.List Signature
+rulesIn (set.Regular r) = regularRules r
+rulesIn (set.List l) = listedRules l
+rulesIn set.Unknown = []
+
+unfoldable pub listingOf : ℕ → L.List Signature
+listingOf f = rulesIn (functionSetOf f)
+
+-- the rule at an index; at an index behind the last one, refusal 7 at place 1
+abbrev pub ruleIn : L.List Signature → ℕ → RuleAnswer
+ruleIn [] i = answer.Refused (Unknown 1)
+ruleIn (r ∷ rs) zero = answer.Rule (ruleOf r)
+ruleIn (r ∷ rs) (suc i) = ruleIn rs i
+
+-- the rule at an index of a function's full listing; of an unknown function, refusal 7 at place 0
+unfoldable pub ruleAt : ℕ → ℕ → RuleAnswer
+ruleAt f i = choose (ltb f functionCount) (ruleIn (listingOf f) i) (answer.Refused (Unknown 0))
+
+-- what each function's Regular set is: known, not without a scalar, and each rule has a conclusion, so that refusal 13 never arises
+pub record Built (r : Regular) : Type 0 where
+  pub known : Known r
+  pub some : 0 < r .scalars .0
+  pub concludes : allConclude r ≡ true

@@ -1,0 +1,10 @@
+pub mod Rules
+pub mod Regulars
+pub mod Puts
+pub mod Records
+pub mod Conclusions
+pub mod Listings
+pub mod RegularCodes
+pub mod RegularSteps
+pub mod RegularRules
+pub mod SetPapers

@@ -1,0 +1,43 @@
+-- A rule's record and what it says: the record of what a rule says, says the same. Assumes nothing.
+use mathlib.Core.Path.{_≡_, refl, ap, ap₂}
+use mathlib.Core.List.{List, [], _∷_, map}
+use Prim.Native.Nat.{ℕ, _≤_}
+use native.Mathlib.Omega.{arith}
+use lib.ListN.{length, take, getD, length-take}
+use Rattle.rules.specs.Signature.{Signature}
+use Rattle.rules.specs.Rule.{argumentsOf, signatureOf, ruleOf}
+use Rattle.rules.specs.declared.rule.Rule.{Rule}
+
+-- the record that is read past an array's end
+abbrev pub zeroRule : Rule
+zeroRule = record { a0 = 0; a1 = 0; a2 = 0; a3 = 0; count = 0; result = 0 }
+
+four : (ts : List ℕ) → length ts ≤ 4 → take (length ts) (getD ts 0 255 ∷ getD ts 1 255 ∷ getD ts 2 255 ∷ getD ts 3 255 ∷ []) ≡ ts
+four [] h = refl
+four (a ∷ []) h = refl
+four (a ∷ b ∷ []) h = refl
+four (a ∷ b ∷ c ∷ []) h = refl
+four (a ∷ b ∷ c ∷ d ∷ []) h = refl
+four (a ∷ b ∷ c ∷ d ∷ e ∷ ts) h = absurd (omega arith)
+
+-- a rule of at most four arguments is had back from its record
+pub record-says : (s : Signature) → length (s .arguments) ≤ 4 → signatureOf (ruleOf s) ≡ s
+unfolding argumentsOf ruleOf
+record-says s h = ap (λ (ts : List ℕ). record { arguments = ts; result = s .result }) (four (s .arguments) h)
+
+-- a record holds at most four arguments
+pub arguments-few : (r : Rule) → length (argumentsOf r) ≤ 4
+unfolding argumentsOf
+arguments-few r = simp length-take (omega arith)
+
+pub says-again : (r : Rule) → signatureOf (ruleOf (signatureOf r)) ≡ signatureOf r
+says-again r = record-says (signatureOf r) (arguments-few r)
+
+pub records-say : (rs : List Rule) → map signatureOf (map ruleOf (map signatureOf rs)) ≡ map signatureOf rs
+records-say [] = refl
+records-say (r ∷ rs) = ap₂ (λ (s : Signature) (ss : List Signature). s ∷ ss) (says-again r) (records-say rs)
+
+-- the count of a record with 255 in the fields not in use
+pub clean-count : {r : Rule} → ruleOf (signatureOf r) ≡ r → length (argumentsOf r) ≡ r .count
+unfolding ruleOf
+clean-count e = ap (λ (x : Rule). x .count) e

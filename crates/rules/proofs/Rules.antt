@@ -1,0 +1,123 @@
+-- A rule's record and its meaning: its arguments by index, a test of each of them, and the record that its meaning gives back.
+-- Assumes nothing.
+use mathlib.Core.Path.{_≡_, refl, sym, ap, _∙_}
+use mathlib.Core.Bool.{Bool, true, false, not}
+use mathlib.Core.List.{List, [], _∷_}
+use Prim.Native.Nat.{ℕ, zero, suc, _/_, _%_, _≤_, _<_, min}
+use native.Mathlib.Omega.{arith}
+use lib.Dec.{eqb, leb, ltb}
+use lib.ListN.{length, take, getD, replicate, length-take, length-replicate, getD-replicate, List·getD-eq-default}
+use lib.Seq.{getD-take}
+use borrow.Author.Tests.{le-leb, lt-leb, leb-true, leb-false, ltb-true, ne-eqb}
+use Rattle.domain.specs.Mask.{choose, both, either, every}
+use Rattle.domain.specs.Domain.{converts, value?, known?, isAbstract}
+use Rattle.rules.specs.Signature.{reaches, takesAt, takes, allConcrete, concrete}
+use Rattle.rules.specs.Rule.{argumentsOf, signatureOf, knownRule}
+use Rattle.rules.specs.declared.rule.Rule.{Rule}
+
+module _ {A : Type 0} where
+  -- an entry of the first n of a list, and of n equal ones
+  pub taken-at : (n : ℕ) (xs : List A) (i : ℕ) (d : A) → getD (take n xs) i d ≡ choose (leb n i) d (getD xs i d)
+  taken-at n xs i d = go (leb n i) refl
+    where
+      go : (b : Bool) → leb n i ≡ b → getD (take n xs) i d ≡ choose b d (getD xs i d)
+      go true e = List·getD-eq-default (take n xs) d (omega (arith, length-take n xs, leb-true n i e))
+      go false e = getD-take n xs i d (leb-false n i e)
+
+  pub repeated-at : (n : ℕ) (t : A) (i : ℕ) (d : A) → getD (replicate n t) i d ≡ choose (leb n i) d t
+  repeated-at n t i d = go (leb n i) refl
+    where
+      go : (b : Bool) → leb n i ≡ b → getD (replicate n t) i d ≡ choose b d t
+      go true e = List·getD-eq-default (replicate n t) d (omega (arith, length-replicate n t, leb-true n i e))
+      go false e = getD-replicate n i t d (leb-false n i e)
+
+-- a test of each of the first n of four
+module _ (p : ℕ → Bool) (a b c d : ℕ) where
+  each-of-four : (n : ℕ) → every p (take n (a ∷ b ∷ c ∷ d ∷ []))
+      ≡ both (either (leb n 0) (p a)) (both (either (leb n 1) (p b)) (both (either (leb n 2) (p c)) (either (leb n 3) (p d))))
+  each-of-four zero = refl
+  each-of-four (suc zero) = refl
+  each-of-four (suc (suc zero)) = refl
+  each-of-four (suc (suc (suc zero))) = refl
+  each-of-four (suc (suc (suc (suc m)))) =
+      let n = suc (suc (suc (suc m))) in
+      simp (nothing m, last (p d), lt-leb n 0 (omega arith), lt-leb n 1 (omega arith), lt-leb n 2 (omega arith), lt-leb n 3 (omega arith))
+    where
+      nothing : (m : ℕ) → every p (take m []) ≡ true
+      nothing zero = refl
+      nothing (suc m) = refl
+
+      last : (b : Bool) → both b true ≡ b
+      last true = refl
+      last false = refl
+
+-- no abstract one among the first n of four
+each-concrete : (n a b c d : ℕ) → allConcrete (take n (a ∷ b ∷ c ∷ d ∷ []))
+    ≡ both (not (both (not (leb n 0)) (isAbstract a))) (both (not (both (not (leb n 1)) (isAbstract b)))
+    (both (not (both (not (leb n 2)) (isAbstract c))) (not (both (not (leb n 3)) (isAbstract d)))))
+each-concrete n a b c d =
+    each-of-four (λ x. not (isAbstract x)) a b c d n
+    ∙ simp (turn (leb n 0) (isAbstract a), turn (leb n 1) (isAbstract b), turn (leb n 2) (isAbstract c), turn (leb n 3) (isAbstract d))
+  where
+    turn : (x y : Bool) → either x (not y) ≡ not (both (not x) y)
+    turn true y = refl
+    turn false y = refl
+
+-- no operand reaches the mark of an argument that is not there
+reaches-none : (t : ℕ) → reaches t 255 ≡ false
+unfolding reaches
+reaches-none t = go (ltb t 156) refl
+  where
+    go : (b : Bool) → ltb t 156 ≡ b → both (both b (eqb (t / 12) 21)) (both b (converts (t % 12) 3)) ≡ false
+    go true e = let l : t < 156 = ltb-true _ _ e in simp (ne-eqb (t / 12) 21 (λ z. absurd (omega arith)))
+    go false e = refl
+
+-- the argument step's test, by the argument at the index
+takes-at : (i t : ℕ) (az : List ℕ) → takesAt i t az ≡ reaches t (getD az i 255)
+takes-at i t [] = sym (reaches-none t)
+takes-at zero t (a ∷ az) = refl
+takes-at (suc i) t (a ∷ az) = takes-at i t az
+
+-- the same of a rule's record
+module _ (r : Rule) where
+  pub argument-at : (i : ℕ) → getD (argumentsOf r) i 255 ≡ choose (leb (r .count) i) 255 (getD (r .a0 ∷ r .a1 ∷ r .a2 ∷ r .a3 ∷ []) i 255)
+  unfolding argumentsOf
+  argument-at i = taken-at (r .count) (r .a0 ∷ r .a1 ∷ r .a2 ∷ r .a3 ∷ []) i 255
+
+  pub argument-here : (i k : ℕ) → i ≡ k → i < r .count → getD (argumentsOf r) i 255 ≡ getD (r .a0 ∷ r .a1 ∷ r .a2 ∷ r .a3 ∷ []) k 255
+  argument-here i k e h =
+      argument-at i ∙ ap (λ (b : Bool). choose b 255 (getD (r .a0 ∷ r .a1 ∷ r .a2 ∷ r .a3 ∷ []) i 255)) (lt-leb (r .count) i h)
+      ∙ ap (λ (j : ℕ). getD (r .a0 ∷ r .a1 ∷ r .a2 ∷ r .a3 ∷ []) j 255) e
+
+  pub argument-past : (i : ℕ) → r .count ≤ i → getD (argumentsOf r) i 255 ≡ 255
+  argument-past i h = argument-at i ∙ ap (λ (b : Bool). choose b 255 (getD (r .a0 ∷ r .a1 ∷ r .a2 ∷ r .a3 ∷ []) i 255)) (le-leb (r .count) i h)
+
+  pub argument-fifth : (i : ℕ) → i < r .count → 3 < i → getD (argumentsOf r) i 255 ≡ 255
+  argument-fifth i h l = argument-here i i refl h ∙ List·getD-eq-default (r .a0 ∷ r .a1 ∷ r .a2 ∷ r .a3 ∷ []) 255 {n = i} l
+
+  pub known-four : knownRule r
+      ≡ both (both (either (leb (r .count) 0) (value? (r .a0))) (both (either (leb (r .count) 1) (value? (r .a1)))
+      (both (either (leb (r .count) 2) (value? (r .a2))) (either (leb (r .count) 3) (value? (r .a3)))))) (known? (r .result))
+  unfolding knownRule argumentsOf
+  known-four = ap (λ (b : Bool). both b (known? (r .result))) (each-of-four value? (r .a0) (r .a1) (r .a2) (r .a3) (r .count))
+
+  pub concrete-four : concrete (signatureOf r)
+      ≡ both (not (both (not (leb (r .count) 0)) (isAbstract (r .a0)))) (both (not (both (not (leb (r .count) 1)) (isAbstract (r .a1))))
+      (both (not (both (not (leb (r .count) 2)) (isAbstract (r .a2)))) (not (both (not (leb (r .count) 3)) (isAbstract (r .a3))))))
+  unfolding argumentsOf
+  concrete-four = each-concrete (r .count) (r .a0) (r .a1) (r .a2) (r .a3)
+
+  pub takes-argument : (i t : ℕ) → takes i t (signatureOf r) ≡ reaches t (getD (argumentsOf r) i 255)
+  takes-argument i t = takes-at i t (argumentsOf r)
+
+  pub count-of : length (argumentsOf r) ≡ min (r .count) 4
+  unfolding argumentsOf
+  count-of = length-take (r .count) (r .a0 ∷ r .a1 ∷ r .a2 ∷ r .a3 ∷ [])
+
+  -- an argument, by the number of those that four fields hold
+  pub argument-held : (i : ℕ) → i < 4 → getD (argumentsOf r) i 255 ≡ choose (leb (min (r .count) 4) i) 255 (getD (r .a0 ∷ r .a1 ∷ r .a2 ∷ r .a3 ∷ []) i 255)
+  argument-held i h = argument-at i ∙ ap (λ (b : Bool). choose b 255 (getD (r .a0 ∷ r .a1 ∷ r .a2 ∷ r .a3 ∷ []) i 255)) (go (leb (r .count) i) refl)
+    where
+      go : (b : Bool) → leb (r .count) i ≡ b → b ≡ leb (min (r .count) 4) i
+      go true e = sym (le-leb (min (r .count) 4) i (omega (arith, leb-true (r .count) i e)))
+      go false e = sym (lt-leb (min (r .count) 4) i (omega (arith, leb-false (r .count) i e)))

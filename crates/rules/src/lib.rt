@@ -1,0 +1,26 @@
+// Type rules, and Regular sets of them: naga's `src/proc/overloads/rule.rs` and `regular.rs`, above the crate `domain`.
+//
+// Each file has the name of the Rust's; beside them stands `listing`, what a set of either kind lists. Every public function ends on
+// every input and tests it itself.
+
+mod listing;
+mod regular;
+mod rule;
+
+pub use listing::AllowedArgs;
+pub use listing::Listing;
+pub use listing::no_codes;
+pub use listing::no_listing;
+pub use listing::no_rules;
+pub use listing::no_types;
+pub use regular::ConclusionRule;
+pub use regular::Regular;
+pub use regular::RegularAnswer;
+pub use rule::Keep;
+pub use rule::MOST_ARGUMENTS;
+pub use rule::Predeclared;
+pub use rule::Rule;
+pub use rule::RuleAnswer;
+pub use rule::UNUSED;
+pub use rule::for_frexp_modf;
+pub use rule::reaches;

@@ -1,0 +1,257 @@
+// Type rules: the types of a rule's arguments, and its conclusion.
+//
+// The crate holds a vector of arguments. A rule here is a small record of four argument codes, their count and a result code; its
+// meaning is the list of its arguments and its result. Fields not in use are never read, and hold 255 in answers.
+
+ghost use mathlib.Core.Path.{_≡_};
+ghost use mathlib.Core.Bool.{not};
+ghost use Prim.Native.Nat.{_≤_, min};
+ghost use lib.Dec.{leb};
+ghost use lib.ListN.{getD, replicate};
+ghost use Rattle.domain.specs.Mask.{choose, both, either};
+ghost use Rattle.domain.specs.Domain.{value?, isAbstract};
+ghost use Rattle.rules.specs.Signature.{reaches, takes, concrete};
+ghost use Rattle.rules.specs.Rule.{argumentsOf, signatureOf, ruleOf, checkedRule, knownRule, predeclaredOf, passes};
+use domain::CodeAnswer;
+use domain::ConstructorAnswer;
+use domain::ConstructorSize;
+use domain::LAST_CODE;
+use domain::Refusal;
+use domain::Scalar;
+use domain::TypeParts;
+use domain::VALUES;
+use domain::code_of;
+use domain::is_abstract;
+use domain::scalar_converts;
+
+// The most arguments of a rule.
+pub const MOST_ARGUMENTS: u8 = 4;
+
+// What a field not in use holds.
+pub const UNUSED: u8 = 255;
+
+pub struct Rule {
+    pub a0: u8,
+    pub a1: u8,
+    pub a2: u8,
+    pub a3: u8,
+    pub count: u8,
+    pub result: u8,
+}
+
+// The answer where one rule is asked for.
+pub enum RuleAnswer {
+    Rule(Rule),
+    Refused(Refusal),
+}
+
+// What a step keeps of a set: the rules that take a type at an index, or those without an abstract argument.
+pub enum Keep {
+    Argument(usize, u8),
+    Concrete,
+}
+
+// The two functions whose results have types of their own.
+pub enum Predeclared {
+    Frexp,
+    Modf,
+}
+
+impl Rule {
+    // The record of no rule.
+    pub const BLANK: Rule = Rule {
+        a0: 255,
+        a1: 255,
+        a2: 255,
+        a3: 255,
+        count: 255,
+        result: 255,
+    };
+
+    // The rule with 255 in the fields not in use. Refused 7 for an unknown code, then 3 for more than four arguments.
+    pub fn checked(self) -> RuleAnswer
+        ensures { λ r. ⌜ r ≡ checkedRule self ⌝ }
+    {
+        if !self.known() {
+            return RuleAnswer::Refused(Refusal::Unknown(0));
+        }
+        if MOST_ARGUMENTS < self.count {
+            return RuleAnswer::Refused(Refusal::TooMany);
+        }
+        RuleAnswer::Rule(self.cleaned())
+    }
+
+    // Whether the arguments are value types and the result is a type.
+    pub fn known(self) -> bool
+        ensures { λ r. ⌜ r ≡ knownRule self ⌝ }
+    {
+        let n = self.count;
+        if !known_at(n, 0, self.a0) {
+            return false;
+        }
+        if !known_at(n, 1, self.a1) {
+            return false;
+        }
+        if !known_at(n, 2, self.a2) {
+            return false;
+        }
+        if !known_at(n, 3, self.a3) {
+            return false;
+        }
+        self.result <= LAST_CODE
+    }
+
+    // The rule with 255 in the fields not in use. A rule has no more arguments than fields, whatever its count says.
+    pub fn cleaned(self) -> Rule
+        ensures { λ r. ⌜ r ≡ ruleOf (signatureOf self) ⌝ }
+    {
+        let n = held(self.count);
+        Rule {
+            a0: used(n, 0, self.a0),
+            a1: used(n, 1, self.a1),
+            a2: used(n, 2, self.a2),
+            a3: used(n, 3, self.a3),
+            count: n,
+            result: self.result,
+        }
+    }
+
+    // The rule of n arguments of one type.
+    pub(crate) fn uniform(n: u8, t: u8, result: u8) -> Rule
+        requires { ⌜ n ≤ 4 ⌝ }
+        ensures { λ r. ⌜ r ≡ ruleOf (record { arguments = replicate n t; result = result }) ⌝ }
+    {
+        Rule {
+            a0: used(n, 0, t),
+            a1: used(n, 1, t),
+            a2: used(n, 2, t),
+            a3: used(n, 3, t),
+            count: n,
+            result: result,
+        }
+    }
+
+    // Whether the rule passes a step's test.
+    pub fn passes(self, keep: Keep) -> bool
+        ensures { λ r. ⌜ r ≡ passes keep (signatureOf self) ⌝ }
+    {
+        match keep {
+            Keep::Argument(i, t) => self.takes(i, t),
+            Keep::Concrete => self.concrete(),
+        }
+    }
+
+    // Whether the rule has an argument at the index, and the type reaches it.
+    fn takes(self, i: usize, t: u8) -> bool
+        ensures { λ r. ⌜ r ≡ takes i t (signatureOf self) ⌝ }
+    {
+        reaches(t, self.argument(i))
+    }
+
+    // The argument at an index; 255 where there is none.
+    pub fn argument(self, i: usize) -> u8
+        ensures { λ r. ⌜ r ≡ getD (argumentsOf self) i 255 ⌝ }
+    {
+        let n = self.count;
+        if (n as usize) <= i {
+            return UNUSED;
+        }
+        if i == 0 {
+            return self.a0;
+        }
+        if i == 1 {
+            return self.a1;
+        }
+        if i == 2 {
+            return self.a2;
+        }
+        if i == 3 {
+            return self.a3;
+        }
+        UNUSED
+    }
+
+    // Whether no argument is abstract.
+    fn concrete(self) -> bool
+        ensures { λ r. ⌜ r ≡ concrete (signatureOf self) ⌝ }
+    {
+        let n = self.count;
+        if abstract_at(n, 0, self.a0) {
+            return false;
+        }
+        if abstract_at(n, 1, self.a1) {
+            return false;
+        }
+        if abstract_at(n, 2, self.a2) {
+            return false;
+        }
+        !abstract_at(n, 3, self.a3)
+    }
+}
+
+// Whether an operand's type equals an argument's, or is reached by converting its scalar under the same constructor.
+pub fn reaches(t: u8, a: u8) -> bool
+    ensures { λ r. ⌜ r ≡ reaches t a ⌝ }
+{
+    if VALUES <= t {
+        return false;
+    }
+    if t / 12 != a / 12 {
+        return false;
+    }
+    scalar_converts(t % 12, a % 12)
+}
+
+// Whether an argument is not there, or is a value type.
+fn known_at(count: u8, i: u8, a: u8) -> bool
+    ensures { λ r. ⌜ r ≡ either (leb count i) (value? a) ⌝ }
+{
+    if count <= i {
+        return true;
+    }
+    a < VALUES
+}
+
+// Whether an argument is there and abstract.
+fn abstract_at(count: u8, i: u8, a: u8) -> bool
+    ensures { λ r. ⌜ r ≡ both (not (leb count i)) (isAbstract a) ⌝ }
+{
+    if count <= i {
+        return false;
+    }
+    is_abstract(a)
+}
+
+// How many arguments of a count the four fields hold.
+fn held(count: u8) -> u8
+    ensures { λ r. ⌜ r ≡ min count 4 ⌝ }
+{
+    if MOST_ARGUMENTS < count {
+        return MOST_ARGUMENTS;
+    }
+    count
+}
+
+// An argument, or 255 where it is not there.
+fn used(count: u8, i: u8, a: u8) -> u8
+    ensures { λ r. ⌜ r ≡ choose (leb count i) 255 a ⌝ }
+{
+    if count <= i {
+        return UNUSED;
+    }
+    a
+}
+
+// The result type of Frexp or Modf. Refused 7 at 0 for a size that does not exist, at 1 for an unknown scalar; then 13 for a matrix,
+// or for a scalar but F32, F16 and F64.
+pub fn for_frexp_modf(function: Predeclared, size: ConstructorSize, scalar: Scalar) -> CodeAnswer
+    ensures { λ r. ⌜ r ≡ predeclaredOf function size (scalar .0) ⌝ }
+{
+    match size.constructor() {
+        ConstructorAnswer::Refused(why) => CodeAnswer::Refused(why),
+        ConstructorAnswer::Constructor(constructor) => match function {
+            Predeclared::Frexp => code_of(TypeParts::Frexp(constructor, scalar)),
+            Predeclared::Modf => code_of(TypeParts::Modf(constructor, scalar)),
+        },
+    }
+}
