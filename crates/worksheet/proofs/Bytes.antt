@@ -38,13 +38,13 @@ after s part rest at e = sym (drop-drop (length part) at s) ∙ ap (drop (length
 -- the two bytes of a leaf
 pub record LeafThere (s : List ℕ) (at : ℕ) (l : Leaf) : Type 0 where
   pub here : at + 1 < length s
-  pub tag : getD s at 0 ≡ leafTag l
+  pub tag : getD s at 0 ≡ leafTag
   pub type-is : getD s (at + 1) 0 ≡ l .type
 
 pub leaf-there : (s : List ℕ) (at : ℕ) (l : Leaf) (rest : List ℕ) → drop at s ≡ bytesOf (leaf l) ++ rest → LeafThere s at l
 unfolding bytesOf
 leaf-there s at l rest text =
-    let x = front s at (at + 1) (leafTag l) (l .type ∷ rest) (omega arith) text in
+    let x = front s at (at + 1) leafTag (l .type ∷ rest) (omega arith) text in
     let y = front s (at + 1) (at + 2) (l .type) rest (omega arith) (x .behind) in
     record { here = y .here; tag = x .byte; type-is = y .byte }
 

@@ -1,21 +1,22 @@
 -- What a single call answers, for the second pass: a chosen rule has an argument for each operand, in the four fields of its record;
 -- an operand after which no rule is left is one of the operands.
 -- Rests on the database only by the laws of proofs/Database.antt. Assumes nothing.
-use mathlib.Core.Path.{_≡_, refl, ap, subst}
+use mathlib.Core.Path.{_≡_, ap, subst}
 use mathlib.Core.Bool.{Bool, true, false}
-use mathlib.Core.List.{List, [], _∷_}
+use mathlib.Core.List.{List}
 use Prim.Native.Nat.{ℕ, _+_, _≤_, _<_}
 use native.Mathlib.Omega.{arith}
 use borrow.Author.Tests.{lt-ltb, le-ltb}
 use lib.Dec.{ltb}
 use lib.ListN.{length}
-use Rattle.domain.specs.Mask.{choose, either}
+use Rattle.domain.specs.Mask.{choose}
 use Rattle.domain.specs.Domain.{firstUnknown}
 use Rattle.rules.specs.Signature.{Signature}
 use Rattle.rules.specs.Rule.{argumentsOf, ruleOf}
 use Rattle.overloads.specs.Choice.{Choice, chosen, wrongCount, noneAfter, noneConcrete, resolve}
 use Rattle.overloads.specs.Taking.{Says}
 use Rattle.overloads.proofs.Choices.{resolve-says}
+use Rattle.rules.proofs.Records.{record-says}
 use Rattle.functions.specs.Functions.{functionCount, listingOf}
 use Rattle.overloads.specs.Call.{answered, callOf}
 use Rattle.domain.specs.Refusal.{numberOf, placeOf}
@@ -27,19 +28,6 @@ use Rattle.domain.specs.declared.refusal.Refusal.the-variants.{Unknown}
 use Rattle.worksheet.specs.Machine.{mostOperands}
 use Rattle.worksheet.specs.SecondPass.{Within}
 use Rattle.worksheet.proofs.Database.{one-length, four-arguments, result-known}
-
--- a rule of at most four arguments is the meaning of its record
-fields-hold : (r : Signature) → length (r .arguments) ≤ 4 → argumentsOf (ruleOf r) ≡ r .arguments
-unfolding argumentsOf ruleOf
-fields-hold r h = go (r .arguments) h
-  where
-    go : (az : List ℕ) → length az ≤ 4 → argumentsOf (ruleOf (record { arguments = az; result = r .result })) ≡ az
-    go [] k = refl
-    go (a ∷ []) k = refl
-    go (a ∷ b ∷ []) k = refl
-    go (a ∷ b ∷ c ∷ []) k = refl
-    go (a ∷ b ∷ c ∷ d ∷ []) k = refl
-    go (a ∷ b ∷ c ∷ d ∷ e ∷ az) k = absurd (omega arith)
 
 -- what is known of a choice
 pub record Ruled (ts : List ℕ) (r : Signature) : Type 0 where
@@ -56,7 +44,7 @@ Chose ts noneConcrete = Unit
 module _ (switch : Bool) (f : ℕ) (ts : List ℕ) where
   chose-from : (c : Choice) → Says switch (listingOf f) ts c → Chose ts c
   chose-from (chosen i r) b = record {
-    fields = fields-hold r (four-arguments f i r (b .there));
+    fields = ap (λ (s : Signature). s .arguments) (record-says r (four-arguments f i r (b .there)));
     many = b .taken .many;
     known = result-known f i r (b .there);
   }

@@ -8,14 +8,13 @@ use native.Mathlib.Numerals.{add-one}
 use native.Mathlib.Omega.{arith}
 use borrow.Author.Tests.{eq-eqb, ne-eqb}
 use lib.Dec.{eqb}
-use lib.ListN.{length, getD, drop, length-take, length-drop, drop-of-length-le}
-use lib.Seq.{drop-cons, getD-take}
+use lib.ListN.{length, getD, drop, length-drop, drop-of-length-le}
+use lib.Seq.{drop-cons}
 use Rattle.rules.specs.Rule.{argumentsOf}
 use Rattle.rules.specs.declared.rule.Rule.{Rule}
 use Rattle.worksheet.specs.declared.sheet.Sheet.{Sheet}
 use Rattle.worksheet.specs.Line.{conversionLine, conversionMark, unlessSame, conversions, encode}
 use Rattle.worksheet.specs.Sheet.{Wrote}
-use Rattle.worksheet.specs.SecondPass.{fieldsOf}
 use Rattle.worksheet.proofs.Written.{wrote-both, wrote-as, wrote-nothing}
 
 -- the conversions of the operands from an index on
@@ -26,54 +25,48 @@ leftFrom ts rule i = encode (conversions (drop i ts) (drop i (argumentsOf rule))
 abbrev pub Leaves : Sheet → List ℕ → Rule → Sheet → ℕ → Type 0
 Leaves h ts rule m i = (r : Sheet) → Wrote m (leftFrom ts rule i) r → Wrote h (leftFrom ts rule 0) r
 
-pub few-arguments : (rule : Rule) → length (argumentsOf rule) ≤ 4
-unfolding argumentsOf
-few-arguments rule = omega (arith, length-take (rule .count) (fieldsOf rule))
-
 module _ (ts : List ℕ) (rule : Rule) (i : ℕ) (taken : length ts ≤ length (argumentsOf rule)) where
   pub none-left : length ts ≤ i → leftFrom ts rule i ≡ []
   unfolding encode
   none-left h = rw (drop-of-length-le ts {i = i} h)
 
+  -- the argument's type
+  abbrev pub wanted : ℕ
+  wanted = getD (argumentsOf rule) i 255
+
   module _ (here : i < length ts) where
     split : conversions (drop i ts) (drop i (argumentsOf rule))
-        ≡ unlessSame (eqb (getD ts i 0) (getD (fieldsOf rule) i 0))
-        (conversionLine (length ts - 1 - i) (getD (fieldsOf rule) i 0))
+        ≡ unlessSame (eqb (getD ts i 0) wanted)
+        (conversionLine (length ts - 1 - i) wanted)
         (conversions (drop (i + 1) ts) (drop (i + 1) (argumentsOf rule)))
-    unfolding argumentsOf
     split =
-        let l = length-take (rule .count) (fieldsOf rule) in
-        let a : getD (argumentsOf rule) i 0 ≡ getD (fieldsOf rule) i 0 = getD-take (rule .count) (fieldsOf rule) i 0 (omega arith) in
         let n : length (drop (suc i) ts) ≡ length ts - 1 - i = length-drop (suc i) ts ∙ omega arith in
-        ap₂ conversions (drop-cons ts i 0 here) (drop-cons (argumentsOf rule) i 0 (omega arith))
-        ∙ ap₂
-        (λ d x. unlessSame (eqb (getD ts i 0) x) (conversionLine d x) (conversions (drop (suc i) ts) (drop (suc i) (argumentsOf rule)))) n a
-        ∙ ap (λ j. unlessSame (eqb (getD ts i 0) (getD (fieldsOf rule) i 0))
-        (conversionLine (length ts - 1 - i) (getD (fieldsOf rule) i 0)) (conversions (drop j ts) (drop j (argumentsOf rule)))) (sym
-        (add-one i))
+        ap₂ conversions (drop-cons ts i 0 here) (drop-cons (argumentsOf rule) i 255 (omega arith))
+        ∙ ap₂ (λ d j. unlessSame (eqb (getD ts i 0) wanted) (conversionLine d wanted) (conversions (drop j ts) (drop j (argumentsOf rule)))) n
+        (sym (add-one i))
 
-    same-left : getD ts i 0 ≡ getD (fieldsOf rule) i 0 → leftFrom ts rule i ≡ leftFrom ts rule (i + 1)
+    same-left : getD ts i 0 ≡ wanted → leftFrom ts rule i ≡ leftFrom ts rule (i + 1)
     same-left e =
         let s : conversions (drop i ts) (drop i (argumentsOf rule)) ≡ conversions (drop (i + 1) ts) (drop (i + 1) (argumentsOf rule)) =
-        split ∙ simp (eq-eqb (getD ts i 0) (getD (fieldsOf rule) i 0) e) in
+        split ∙ simp (eq-eqb (getD ts i 0) wanted e) in
         ap encode s
 
-    differ-left : (getD ts i 0 ≡ getD (fieldsOf rule) i 0 → ⊥)
-        → leftFrom ts rule i ≡ (conversionMark ∷ (length ts - 1 - i) ∷ getD (fieldsOf rule) i 0 ∷ 0 ∷ []) ++ leftFrom ts rule (i + 1)
+    differ-left : (getD ts i 0 ≡ wanted → ⊥)
+        → leftFrom ts rule i ≡ (conversionMark ∷ (length ts - 1 - i) ∷ wanted ∷ 0 ∷ []) ++ leftFrom ts rule (i + 1)
     unfolding encode
     differ-left e =
         let s : conversions (drop i ts) (drop i (argumentsOf rule))
-        ≡ conversionLine (length ts - 1 - i) (getD (fieldsOf rule) i 0) ∷ conversions (drop (i + 1) ts) (drop (i + 1) (argumentsOf rule)) =
-        split ∙ simp (ne-eqb (getD ts i 0) (getD (fieldsOf rule) i 0) e) in
+        ≡ conversionLine (length ts - 1 - i) wanted ∷ conversions (drop (i + 1) ts) (drop (i + 1) (argumentsOf rule)) =
+        split ∙ simp (ne-eqb (getD ts i 0) wanted e) in
         ap encode s
 
     -- an operand of the argument's type needs no line
-    pub leave-same : (h m : Sheet) (x : ℕ) → x ≡ getD (fieldsOf rule) i 0 → getD ts i 0 ≡ x
+    pub leave-same : (h m : Sheet) (x : ℕ) → x ≡ wanted → getD ts i 0 ≡ x
         → Leaves h ts rule m i → Leaves h ts rule m (i + 1)
     leave-same h m x p e k r w = k r (wrote-as (sym (same-left (e ∙ p))) w)
 
     -- any other has one
-    pub leave-line : (h m m′ : Sheet) (x : ℕ) → x ≡ getD (fieldsOf rule) i 0 → (getD ts i 0 ≡ x → ⊥)
+    pub leave-line : (h m m′ : Sheet) (x : ℕ) → x ≡ wanted → (getD ts i 0 ≡ x → ⊥)
         → Wrote m (conversionMark ∷ (length ts - 1 - i) ∷ x ∷ 0 ∷ []) m′ → Leaves h ts rule m i → Leaves h ts rule m′ (i + 1)
     leave-line h m m′ x p e l k r w =
         k r (wrote-as (sym (differ-left (λ q. e (q ∙ sym p))))

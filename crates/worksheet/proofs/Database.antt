@@ -1,12 +1,11 @@
 -- What the second pass and the machine rest on of the functions' listings: one law for each fact about the database.
 -- Assumes nothing.
-use mathlib.Core.Path.{_≡_, refl, sym, ap, _∙_}
-use mathlib.Core.Bool.{Bool, true, false}
+use mathlib.Core.Path.{_≡_, sym, ap, _∙_}
+use mathlib.Core.Bool.{Bool, true}
 use mathlib.Core.List.{List, [], _∷_}
 use mathlib.Core.Option.{some}
 use Prim.Native.Nat.{ℕ, zero, suc, _≤_}
 use native.Mathlib.Omega.{arith}
-use lib.Dec.{leb}
 use lib.ListN.{length, getElem?}
 use borrow.Author.Tests.{leb-true}
 use Rattle.domain.specs.Mask.{every}
@@ -15,6 +14,7 @@ use Rattle.domain.proofs.Filters.{both-left, both-right}
 use Rattle.rules.specs.Signature.{Signature}
 use Rattle.functions.specs.Functions.{functionCount, listingOf, rulesIn}
 use Rattle.overloads.specs.Taking.{OneLength}
+use Rattle.rules.specs.Rule.{mostArguments, short?}
 use Rattle.functions.proofs.Database as database
 
 -- a test that every rule passes, at one of them
@@ -29,14 +29,8 @@ unfolding OneLength
 one-length f i r e = database.one-length f i r e
 
 -- a rule has at most four arguments, as its record has fields for
-abbrev pub isShort : Signature → Bool
-isShort r = leb (length (r .arguments)) 4
-
-pub short : (f : ℕ) → every isShort (listingOf f) ≡ true
-short f = database.short-rules f
-
-pub four-arguments : (f i : ℕ) (r : Signature) → getElem? (listingOf f) i ≡ some r → length (r .arguments) ≤ 4
-four-arguments f i r e = leb-true _ _ (picked isShort (listingOf f) i r (short f) e)
+pub four-arguments : (f i : ℕ) (r : Signature) → getElem? (listingOf f) i ≡ some r → length (r .arguments) ≤ mostArguments
+four-arguments f i r e = leb-true _ _ (picked short? (listingOf f) i r (database.short-rules f) e)
 
 -- a rule's result is a type code
 pub result-known : (f i : ℕ) (r : Signature) → getElem? (listingOf f) i ≡ some r → r .result ≤ 180

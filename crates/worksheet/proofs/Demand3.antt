@@ -1,21 +1,12 @@
--- Demand 3. Take any database of rules whose listings have one rule length each, either position of the concrete-only switch, and any
--- expression within the limits.
---
--- The typer accepts the expression, with a type and lines, exactly where the expression gives them: each leaf its own line, each call
--- by the first rule of its listing that takes its operands, with conversions only where types differ. It refuses the expression
--- exactly where it is stuck: where some call in it, whose arguments are all typed, has no rule for the number and types of its
--- operands; and the refusal's number and place are the first fault's, arguments before their call, left to right. Every expression is
--- one or the other, never both.
---
--- Of an accepted expression, the worksheet's leaves and calls are its own, in order. The strict machine runs the worksheet, as lines
--- and as bytes, from the empty stack to its end, and leaves exactly one operand, of the type answered. The worksheet needs four bytes
--- for each line, and 508 bytes always suffice.
+-- Demand 3 holds, as specs/Demand3.antt states it. What the typer answers means what it should (proofs/Exact.antt), the worksheet's
+-- leaves and calls are the expression's own (proofs/Own.antt), the machine runs it (proofs/Runs.antt), and its bytes are few
+-- (proofs/Room.antt).
 -- Assumes nothing.
 use mathlib.Core.Path.{_≡_, refl, _∙_}
-use mathlib.Core.Logic.{_↔_, _⊎_, inl, inr}
+use mathlib.Core.Logic.{_⊎_, inl, inr}
 use mathlib.Core.Bool.{Bool}
 use mathlib.Core.List.{List, [], _∷_}
-use Prim.Native.Nat.{ℕ, _*_, _≤_}
+use Prim.Native.Nat.{ℕ, _≤_}
 use native.Mathlib.Omega.{arith}
 use lib.ListN.{length}
 use borrow.Author.Tests.{le-leb}
@@ -24,37 +15,16 @@ use Rattle.overloads.specs.Taking.{OneLength}
 use Rattle.domain.specs.declared.refusal.Refusal.{Refusal}
 use Rattle.worksheet.specs.Tree.{Tree, WellFormed}
 use Rattle.worksheet.specs.Line.{Line, encode}
-use Rattle.worksheet.specs.Machine.{ended, step, run, runBytes}
+use Rattle.worksheet.specs.Machine.{ended, step, run}
 use Rattle.worksheet.specs.Typer.{Typed, typed, refused, typeOf}
 use Rattle.worksheet.specs.Answer.{withRoom, enoughBytes, answer}
-use Rattle.worksheet.specs.Meaning.{order, ownOf, Gives, Stuck}
-use Rattle.worksheet.specs.Fault.{Fails}
+use Rattle.worksheet.specs.Meaning.{Gives, Stuck}
+use Rattle.worksheet.specs.Demand3.{Worksheet, Demand3, Theorem}
 use Rattle.worksheet.proofs.Exact.{Means, means, gives-typed, fails-refused, fails-stuck, not-both}
 use Rattle.worksheet.proofs.Own.{own}
 use Rattle.worksheet.proofs.Room.{four-each, enough}
 use Rattle.worksheet.proofs.Runs.{runs}
 use Rattle.worksheet.proofs.LineBytes.{bytes-run}
-
--- what is proved of the lines that an expression gives
-pub record Worksheet (listingOf : ℕ → List Signature) (e : Tree) (t : ℕ) (ls : List Line) : Type 0 where
-  pub itsOwn : ownOf ls ≡ order e
-  pub linesRun : run listingOf ls ≡ ended (t ∷ [])
-  pub bytesRun : runBytes listingOf (encode ls) ≡ ended (t ∷ [])
-  pub needed : length (encode ls) ≡ 4 * length ls
-  pub suffice : length (encode ls) ≤ enoughBytes
-
-pub record Demand3 (listingOf : ℕ → List Signature) (switch : Bool) (e : Tree) : Type 0 where
-  -- accepted, exactly where the expression gives this type and these lines
-  pub accepted : (t : ℕ) (ls : List Line) → typeOf listingOf switch e 0 ≡ typed t ls ↔ Gives listingOf switch e t ls
-  pub worksheet : (t : ℕ) (ls : List Line) → Gives listingOf switch e t ls → Worksheet listingOf e t ls
-  -- refused, exactly where it is stuck; and so refused, exactly where it fails so
-  pub stuck : ((why : Refusal) × (typeOf listingOf switch e 0 ≡ refused why)) ↔ Stuck listingOf switch e
-  pub failed : (why : Refusal) → typeOf listingOf switch e 0 ≡ refused why ↔ Fails listingOf switch e 0 why
-  -- one or the other
-  pub eitherOne : ((t : ℕ) × (ls : List Line) × Gives listingOf switch e t ls) ⊎ Stuck listingOf switch e
-  pub neverBoth : (t : ℕ) (ls : List Line) → Gives listingOf switch e t ls → Stuck listingOf switch e → ⊥
-  -- with enough bytes, the answer is never a want of room
-  pub roomEnough : (buffer : List ℕ) → enoughBytes ≤ length buffer → answer listingOf switch e buffer ≡ typeOf listingOf switch e 0
 
 module _ (listingOf : ℕ → List Signature) (switch : Bool) (one : (f : ℕ) → OneLength (listingOf f))
     (functions : ℕ) (e : Tree) (fit : WellFormed functions e) where
@@ -88,9 +58,9 @@ module _ (listingOf : ℕ → List Signature) (switch : Bool) (one : (f : ℕ) �
       let n : length (encode ls) ≤ enoughBytes = given t ls (meaning (typed t ls) q) .suffice in
       rw (le-leb (length (encode ls)) (length buffer) (omega arith))
 
-  pub demand-3 : Demand3 listingOf switch e
+  holds : Demand3 listingOf switch e
   unfolding answer
-  demand-3 =
+  holds =
       record {
         accepted = λ t ls. (λ q. meaning (typed t ls) q, λ g. gives-typed listingOf switch one e g 0);
         worksheet = given;
@@ -103,3 +73,6 @@ module _ (listingOf : ℕ → List Signature) (switch : Bool) (one : (f : ℕ) �
         neverBoth = λ t ls g s. not-both listingOf switch one e g s;
         roomEnough = λ buffer h. roomy buffer h (typeOf listingOf switch e 0) refl;
       }
+
+pub demand-3 : Theorem
+demand-3 = holds

@@ -1,38 +1,36 @@
 -- The typer answers exactly what `specs/Meaning.antt` and `specs/Fault.antt` say: it accepts an expression, with its type and lines,
 -- just where the expression gives them, and refuses it, with its refusal, just where it fails so; an expression is stuck just where
--- it fails, and then it gives nothing. Where every listing has one rule length.
+-- it fails, and then it gives nothing. Where every listing has one rule length; of each call by the law of `overloads` (Demand 2).
 -- Assumes nothing.
-use mathlib.Core.Path.{_≡_, refl, ap}
+use mathlib.Core.Path.{_≡_, refl, ap, _∙_}
 use mathlib.Core.Bool.{Bool}
-use mathlib.Core.List.{List, _++_}
+use mathlib.Core.List.{List}
 use Prim.Native.Nat.{ℕ, _<_}
 use native.Mathlib.Omega.{arith}
+use lib.ListN.{length}
 use Rattle.rules.specs.Signature.{Signature}
 use Rattle.overloads.specs.Choice.{Choice, chosen, wrongCount, noneAfter, noneConcrete, resolve}
-use Rattle.overloads.specs.Taking.{NoRule, Best, OneLength}
+use Rattle.overloads.specs.Taking.{NoRule, Best, OneLength, Says}
+use Rattle.overloads.proofs.Choices.{resolve-says}
+use Rattle.overloads.proofs.Demand2.{exactly}
 use Rattle.domain.specs.declared.refusal.Refusal.{Refusal}
 use Rattle.worksheet.specs.Tree.{Tree, Trees, leaf, call, none, more}
-use Rattle.worksheet.specs.Line.{Line, callLines}
+use Rattle.worksheet.specs.Line.{Line}
 use Rattle.worksheet.specs.Places.{inside, behind, starts}
 use Rattle.worksheet.specs.Typer.{Typed, typed, refused, Operands, operands, refusedAmong, before, conclude, concludeCall, typeOf, typeAll}
 use Rattle.worksheet.specs.Meaning.{Gives, leafGives, callGives, GiveAll, noneGive, moreGive, Stuck, atArgument, atCall, StuckAmong, firstStuck, laterStuck}
-use Rattle.worksheet.specs.Fault.{Fault, Fails, failsInside, failsHere, FailsAmong, failsFirst, failsLater}
-use Rattle.worksheet.proofs.Choice.{Answers, resolve-answers}
-use Rattle.worksheet.proofs.Faults.{fault-one, fault-no-rule}
+use Rattle.worksheet.specs.Fault.{Fault, wrongNumber, noneLeft, noneTakes, Fails, failsInside, failsHere, FailsAmong, failsFirst, failsLater}
 
--- the best rule is one
-best-one : (switch : Bool) (rules : List Signature) (ts : List ℕ) (i j : ℕ) (r r′ : Signature) → Best switch rules ts i r
-    → Best switch rules ts j r′ → (i ≡ j) × (r ≡ r′)
-best-one switch rules ts i j r r′ a b = (same, cc (a .there, b .there, same))
-  where
-    low : i < j → ⊥
-    low h = b .earliest i h r (a .there) (a .taken)
-
-    high : j < i → ⊥
-    high h = a .earliest j h r′ (b .there) (b .taken)
-
-    same : i ≡ j
-    same = omega (arith, low, high)
+-- where a call is at fault, no rule takes its operands
+fault-no-rule : (switch : Bool) (rules : List Signature) (ts : List ℕ) (at : ℕ) (places : List ℕ) → OneLength rules
+    → {why : Refusal} → Fault switch rules ts at places why → NoRule switch rules ts
+unfolding NoRule OneLength
+fault-no-rule switch rules ts at places one (wrongNumber n) = λ i r h t. n (t .many ∙ one i r h)
+fault-no-rule switch rules ts at places one (noneLeft {k} e) = λ i r h t.
+    let n : length ts ≡ length (r .arguments) = t .many in
+    let l : k < length ts = e .there in
+    e .none (record { index = i; rule = r; there = h; long = omega arith; reached = λ j le. t .reached j (omega arith) })
+fault-no-rule switch rules ts at places one (noneTakes d) = d .none
 
 module _ (listingOf : ℕ → List Signature) (switch : Bool) where
   -- what an answer means, for an expression at an offset
@@ -51,43 +49,30 @@ module _ (listingOf : ℕ → List Signature) (switch : Bool) where
   before-means e es at (typed t ls) (operands ts ls′) g h = moreGive g h
 
   conclude-means : (f at : ℕ) (es : Trees) (ts : List ℕ) (ls : List Line) → GiveAll listingOf switch es ts ls → (c : Choice)
-      → Answers switch (listingOf f) ts at (starts es (inside at)) c
-      → Means (call f es) at (conclude f at (starts es (inside at)) ts ls c)
-  conclude-means f at es ts ls g (chosen i r) b = callGives g b
-  conclude-means f at es ts ls g wrongCount b = failsHere g b
-  conclude-means f at es ts ls g (noneAfter k) b = failsHere g b
-  conclude-means f at es ts ls g noneConcrete b = failsHere g b
+      → Says switch (listingOf f) ts c → Means (call f es) at (conclude f at (starts es (inside at)) ts ls c)
+  conclude-means f at es ts ls g (chosen i r) s = callGives g s
+  conclude-means f at es ts ls g wrongCount s = failsHere g (wrongNumber s)
+  conclude-means f at es ts ls g (noneAfter k) s = failsHere g (noneLeft s)
+  conclude-means f at es ts ls g noneConcrete s = failsHere g (noneTakes s)
 
-  -- a call that has a best rule is concluded by it, and one at fault is refused for it
+  -- what is said of a call concludes it: a best rule, or a fault
   module _ (f at : ℕ) (places : List ℕ) (ts : List ℕ) (ls : List Line) (one : OneLength (listingOf f)) where
-    never : {why : Refusal} {i : ℕ} {r : Signature} → Fault switch (listingOf f) ts at places why → Best switch (listingOf f) ts i r → ⊥
-    unfolding NoRule
-    never {i = i} {r = r} w b = fault-no-rule switch (listingOf f) ts at places one w i r (b .there) (b .taken)
-
-    conclude-best : (i : ℕ) (r : Signature) → Best switch (listingOf f) ts i r
-        → (c : Choice) → Answers switch (listingOf f) ts at places c
-        → conclude f at places ts ls c ≡ typed (r .result) (ls ++ callLines f i ts r)
-    conclude-best i r b (chosen j r′) a = let o = best-one switch (listingOf f) ts j i r′ r a b in rw (o .0, o .1)
-    conclude-best i r b wrongCount a = absurd (never a b)
-    conclude-best i r b (noneAfter k) a = absurd (never a b)
-    conclude-best i r b noneConcrete a = absurd (never a b)
+    concluded : (c : Choice) → Says switch (listingOf f) ts c
+        → conclude f at places ts ls (resolve switch (listingOf f) ts) ≡ conclude f at places ts ls c
+    concluded c s = ap (conclude f at places ts ls) (exactly switch (listingOf f) ts one c .1 s)
 
     conclude-fault : {why : Refusal} → Fault switch (listingOf f) ts at places why
-        → (c : Choice) → Answers switch (listingOf f) ts at places c → conclude f at places ts ls c ≡ refused why
-    conclude-fault w (chosen i r) a = absurd (never w a)
-    conclude-fault w wrongCount a = ap refused (fault-one switch (listingOf f) ts at places a w)
-    conclude-fault w (noneAfter k) a = ap refused (fault-one switch (listingOf f) ts at places a w)
-    conclude-fault w noneConcrete a = ap refused (fault-one switch (listingOf f) ts at places a w)
+        → conclude f at places ts ls (resolve switch (listingOf f) ts) ≡ refused why
+    conclude-fault (wrongNumber s) = concluded wrongCount s
+    conclude-fault (noneLeft {k} s) = concluded (noneAfter k) s
+    conclude-fault (noneTakes s) = concluded noneConcrete s
 
   module _ (one : (f : ℕ) → OneLength (listingOf f)) where
-    answers : (f : ℕ) (es : Trees) (ts : List ℕ) (at : ℕ)
-        → Answers switch (listingOf f) ts at (starts es (inside at)) (resolve switch (listingOf f) ts)
-    answers f es ts at = resolve-answers switch (listingOf f) ts at (starts es (inside at)) (one f)
-
     call-means : (f at : ℕ) (es : Trees) (x : Operands) → MeansAll es (inside at) x
         → Means (call f es) at (concludeCall listingOf switch f at (starts es (inside at)) x)
     call-means f at es (refusedAmong why) h = failsInside h
-    call-means f at es (operands ts ls) g = conclude-means f at es ts ls g (resolve switch (listingOf f) ts) (answers f es ts at)
+    call-means f at es (operands ts ls) g =
+        conclude-means f at es ts ls g (resolve switch (listingOf f) ts) (resolve-says switch (listingOf f) ts (one f))
 
     -- from the answer to its meaning
     mutual
@@ -112,7 +97,7 @@ module _ (listingOf : ℕ → List Signature) (switch : Bool) where
       gives-typed (leaf l) leafGives at = refl
       gives-typed (call f es) (callGives {i = i} {ts = ts} {ls = ls} {r = r} g b) at =
           rw (give-operands es g (inside at))
-          (conclude-best f at (starts es (inside at)) ts ls (one f) i r b (resolve switch (listingOf f) ts) (answers f es ts at))
+          (concluded f at (starts es (inside at)) ts ls (one f) (chosen i r) b)
 
       give-operands : (es : Trees) {ts : List ℕ} {ls : List Line} → GiveAll listingOf switch es ts ls
           → (at : ℕ) → typeAll listingOf switch es at ≡ operands ts ls
@@ -127,7 +112,7 @@ module _ (listingOf : ℕ → List Signature) (switch : Bool) where
       fails-refused (call f es) (failsInside h) = rw (fail-among es h)
       fails-refused (call f es) (failsHere {at = at} {ts = ts} {ls = ls} g w) =
           rw (give-operands es g (inside at))
-          (conclude-fault f at (starts es (inside at)) ts ls (one f) w (resolve switch (listingOf f) ts) (answers f es ts at))
+          (conclude-fault f at (starts es (inside at)) ts ls (one f) w)
 
       fail-among : (es : Trees) {at : ℕ} {why : Refusal} → FailsAmong listingOf switch es at why
           → typeAll listingOf switch es at ≡ refusedAmong why

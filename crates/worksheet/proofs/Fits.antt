@@ -11,11 +11,16 @@ use lib.ListN.{length, getD, getElem?}
 use Rattle.rules.specs.Signature.{Signature, reaches}
 use Rattle.overloads.specs.Taking.{Best}
 use Rattle.worksheet.specs.Tree.{Tree, Trees, leaf, call, none, more, nodes, nodesAll, mostNodes, Known, KnownAll}
-use Rattle.worksheet.specs.Line.{Line, conversionLine, callLine, unlessSame, conversions, callLines, encode, AreBytes}
+use Rattle.worksheet.specs.Line.{Line, conversionLine, callLine, unlessSame, conversions, callLines, encode}
 use Rattle.worksheet.specs.Meaning.{Gives, leafGives, callGives, GiveAll, noneGive, moreGive}
 use Rattle.worksheet.proofs.LineBytes.{encode-append}
 use Rattle.worksheet.proofs.Room.{few-lines-all}
 use Rattle.worksheet.proofs.Operands.{reached-value}
+
+-- every number is a byte
+abbrev pub AreBytes : List ℕ → Type 0
+AreBytes [] = Unit
+AreBytes (b ∷ bs) = (b < 256) × AreBytes bs
 
 pub byte-at : (bs : List ℕ) → AreBytes bs → (i : ℕ) → getD bs i 0 < 256
 byte-at [] h i = omega arith

@@ -1,3 +1,4 @@
+-- The laws that the proofs of the functions cite, and the theorems: AcceptsExactly, Demand3, OurFunctions and Readings.
 pub mod Bytes
 pub mod Sound
 pub mod Complete
@@ -6,9 +7,6 @@ pub mod OneTree
 pub mod FirstBytes
 pub mod Steps
 pub mod Answers
-pub mod Tests
-pub mod Choice
-pub mod Faults
 pub mod Exact
 pub mod Own
 pub mod Room

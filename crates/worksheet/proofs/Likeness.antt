@@ -1,15 +1,29 @@
--- Two lists of one length are the same if each element of one is the element of the other at that place, found one by one.
+-- When the machine's test finds two lists the same: exactly when they are equal; and two of one length, if each element of one is the
+-- element of the other at that place, found one by one.
 -- Assumes nothing.
-use mathlib.Core.Path.{_≡_, sym, _∙_}
-use mathlib.Core.Bool.{true, false}
-use mathlib.Core.List.{List}
+use mathlib.Core.Path.{_≡_, refl, sym, _∙_}
+use mathlib.Core.Bool.{true, false, false≢true}
+use mathlib.Core.List.{List, [], _∷_}
 use Prim.Native.Nat.{ℕ, _+_, _≤_, _<_}
 use native.Mathlib.Numerals.{add-one}
 use lib.Dec.{eqb}
 use lib.ListN.{length, getD, drop, drop-of-length-le}
 use lib.Seq.{drop-cons}
+use borrow.Author.Tests.{eqb-true, eq-eqb}
 use Rattle.domain.specs.Mask.{both}
+use Rattle.domain.proofs.Filters.{both-left, both-right}
 use Rattle.worksheet.specs.Machine.{same}
+
+pub same-same : (xs : List ℕ) → same xs xs ≡ true
+same-same [] = refl
+same-same (x ∷ xs) = rw (eq-eqb x x refl) (same-same xs)
+
+pub same-is : (xs ys : List ℕ) → same xs ys ≡ true → xs ≡ ys
+same-is [] [] e = refl
+same-is [] (y ∷ ys) e = absurd (false≢true e)
+same-is (x ∷ xs) [] e = absurd (false≢true e)
+same-is (x ∷ xs) (y ∷ ys) e =
+    rw (eqb-true x y (both-left (eqb x y) (same xs ys) e), same-is xs ys (both-right (eqb x y) (same xs ys) e))
 
 module _ (xs ys : List ℕ) (i : ℕ) where
   pub same-end : length xs ≤ i → length ys ≤ i → same (drop i xs) (drop i ys) ≡ true

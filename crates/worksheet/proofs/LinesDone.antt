@@ -13,7 +13,8 @@ use Rattle.worksheet.specs.Tree.{lastLeaf}
 use Rattle.worksheet.specs.Line.{lineOf, leafMark, callMark, conversionMark}
 use Rattle.worksheet.specs.Machine.{stepIf}
 use Rattle.worksheet.specs.TopLast.{pushLast, convertLast, applyLast, stepLast}
-use Rattle.worksheet.specs.MachineStack.{operandsOf, Did, stop, leafDone}
+use Rattle.worksheet.specs.MachineStack.{operandsOf, Did, leafDone}
+use Rattle.worksheet.proofs.Stacks.{stop}
 
 module _ (t : ℕ) (k : Stack) where
   pub leaf-unknown : lastLeaf < t → Did (leafDone t (operandsOf k)) (stop k)

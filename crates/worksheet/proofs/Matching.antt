@@ -1,17 +1,17 @@
 -- The topmost operands of a stack in an array are exactly of a rule's types: as many as the rule has arguments, one after the other.
 -- Assumes nothing.
-use mathlib.Core.Path.{_≡_, refl, sym, ap₂, _∙_}
+use mathlib.Core.Path.{_≡_, sym, ap, _∙_}
 use mathlib.Core.Bool.{Bool, true, false}
-use Prim.Native.Nat.{ℕ, zero, suc, _+_, _-_, _≤_, _<_}
+use Prim.Native.Nat.{ℕ, _+_, _-_, _≤_, _<_}
 use native.Mathlib.Omega.{arith}
 use lib.Dec.{eqb}
 use lib.ListN.{length, getD, drop, length-drop}
 use lib.Seq.{getD-take, getD-drop}
-use Rattle.rules.specs.Rule.{argumentsOf}
+use Rattle.rules.specs.Rule.{mostArguments, argumentsOf}
 use Rattle.rules.specs.declared.rule.Rule.{Rule}
 use Rattle.worksheet.specs.declared.machine.Stack.{Stack}
-use Rattle.worksheet.specs.MachineStack.{operandsOf, InBounds, mostArguments, fieldsOf, alikeFrom}
-use Rattle.worksheet.proofs.Stacks.{counted, arity}
+use Rattle.worksheet.specs.MachineStack.{operandsOf, InBounds, alikeFrom}
+use Rattle.worksheet.proofs.Stacks.{arity, counted}
 use Rattle.worksheet.proofs.Likeness.{same-end, same-differ, same-next}
 
 module _ (k : Stack) (q : Rule) (fits : InBounds k) (short : q .count ≤ mostArguments) (enough : q .count ≤ k .top) (i : ℕ) where
@@ -24,16 +24,14 @@ module _ (k : Stack) (q : Rule) (fits : InBounds k) (short : q .count ≤ mostAr
 
   -- what comparing the operand at argument i with it answers
   abbrev pub Compared : Bool → Type 0
-  Compared b = b ≡ eqb (getD (k .types) (k .top - q .count + i) 0) (getD (fieldsOf q) i 255)
+  Compared b = b ≡ eqb (getD (k .types) (k .top - q .count + i) 0) (getD (argumentsOf q) i 255)
 
   module _ (h : i < q .count) where
     compared : (b : Bool) → Compared b
         → eqb (getD (drop (k .top - q .count) (operandsOf k)) i 0) (getD (argumentsOf q) i 255) ≡ b
-    unfolding argumentsOf
     compared b e =
-        ap₂ eqb
-        (getD-drop (k .top - q .count) (operandsOf k) i 0 ∙ getD-take (k .top) (k .types) (k .top - q .count + i) 0 (omega arith))
-        (getD-take (q .count) (fieldsOf q) i 255 h) ∙ sym e
+        ap (λ (x : ℕ). eqb x (getD (argumentsOf q) i 255))
+        (getD-drop (k .top - q .count) (operandsOf k) i 0 ∙ getD-take (k .top) (k .types) (k .top - q .count + i) 0 (omega arith)) ∙ sym e
 
     pub alike-differ : (b : Bool) → Compared b → b ≡ false → alikeFrom i k q ≡ false
     alike-differ b e f =
@@ -44,11 +42,3 @@ module _ (k : Stack) (q : Rule) (fits : InBounds k) (short : q .count ≤ mostAr
     alike-next b e f =
         same-next (drop (k .top - q .count) (operandsOf k)) (argumentsOf q) i 0 255 (omega (arith, many))
         (omega (arith, arity q short)) (compared b e ∙ f)
-
--- a rule's record has no fifth argument
-pub past-fields : (q : Rule) (i : ℕ) → mostArguments ≤ i → 255 ≡ getD (fieldsOf q) i 255
-past-fields q zero h = absurd (omega arith)
-past-fields q (suc zero) h = absurd (omega arith)
-past-fields q (suc (suc zero)) h = absurd (omega arith)
-past-fields q (suc (suc (suc zero))) h = absurd (omega arith)
-past-fields q (suc (suc (suc (suc i)))) h = refl

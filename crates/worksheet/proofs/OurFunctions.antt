@@ -9,9 +9,10 @@ use Prim.Native.Nat.{ℕ}
 use Rattle.functions.specs.Functions.{functionCount, listingOf}
 use Rattle.worksheet.specs.Tree.{Tree, bytesOf, WellFormed}
 use Rattle.worksheet.specs.Reading.{read, expressionOf}
+use Rattle.worksheet.specs.Demand3.{Demand3}
 use Rattle.worksheet.proofs.AcceptsExactly.{accepts-only}
 use Rattle.worksheet.proofs.Database.{one-length}
-use Rattle.worksheet.proofs.Demand3.{Demand3, demand-3}
+use Rattle.worksheet.proofs.Demand3.{demand-3}
 
 pub for-trees : (switch : Bool) (e : Tree) → WellFormed functionCount e → Demand3 listingOf switch e
 for-trees switch e fit = demand-3 listingOf switch one-length functionCount e fit

@@ -14,10 +14,10 @@ use Rattle.worksheet.specs.declared.machine.Run.the-variants.{Stopped}
 use Rattle.worksheet.specs.declared.machine.Stepped.{Stepped}
 use Rattle.worksheet.specs.Line.{lineOf}
 use Rattle.worksheet.specs.Machine.{Outcome, ended, stopped, next, stepIf, runBytesBy, runBytes}
-use Rattle.worksheet.specs.TopLast.{turned, stepLast, runBytesLast}
+use Rattle.worksheet.specs.TopLast.{stepLast}
 use Rattle.worksheet.specs.Run.{ranOf}
 use Rattle.worksheet.specs.MachineStack.{ranLast, operandsOf, InBounds, Did}
-use Rattle.worksheet.proofs.TopLast.{top-last}
+use Rattle.worksheet.proofs.TopLast.{turned, runBytesLast, top-last}
 use Rattle.worksheet.proofs.Walk.{walk-end, walk-partial, walk-line}
 
 clash : {A : Type 0} {s : List ℕ} {n : ℕ} → ended s ≡ stopped n → A

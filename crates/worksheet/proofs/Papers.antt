@@ -1,11 +1,17 @@
--- The paper's number, place and type of what `type_expression` answers are those of the typing.
--- Assumes nothing.
+-- The paper's numbers determine what `type_expression` answers: two answers with the same number, place and type are equal. Shown by
+-- reading the answer back. Assumes nothing.
 use mathlib.Core.Path.{_≡_, refl}
 use mathlib.Core.List.{[], _∷_}
-use Rattle.worksheet.specs.Typer.{Typed, typed, refused}
-use Rattle.worksheet.specs.Answer.{numberIn, placeIn, typeIn}
-use Rattle.worksheet.specs.Typing.{answerOf, typePaper}
+use lib.ListN.{getD}
+use Rattle.domain.proofs.Papers.{read, reads-refused, one-to-one}
+use Rattle.worksheet.specs.declared.typer.TypeAnswer.{TypeAnswer}
+use Rattle.worksheet.specs.declared.typer.TypeAnswer.the-variants.{Typed, Refused}
+use Rattle.worksheet.specs.Typing.{typePaper}
 
-pub paper-of : (x : Typed) → typePaper (answerOf x) ≡ record { number = numberIn x; place = placeIn x; values = typeIn x ∷ [] }
-paper-of (typed t ls) = refl
-paper-of (refused why) = refl
+type-back : (a : TypeAnswer) → read (λ vs. Typed (getD vs 0 0)) Refused (typePaper a) ≡ a
+unfolding read
+type-back (Typed t) = refl
+type-back (Refused why) = reads-refused (λ vs. Typed (getD vs 0 0)) Refused why (255 ∷ [])
+
+pub type-one : (a b : TypeAnswer) → typePaper a ≡ typePaper b → a ≡ b
+type-one = one-to-one typePaper (read (λ vs. Typed (getD vs 0 0)) Refused) type-back

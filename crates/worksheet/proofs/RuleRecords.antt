@@ -8,38 +8,26 @@ use mathlib.Core.Option.{Option, none, some}
 use Prim.Native.Nat.{ℕ, zero, suc, _≤_}
 use native.Mathlib.Omega.{arith}
 use lib.Dec.{ltb}
-use lib.ListN.{length, getD, take, getElem?}
-use borrow.Author.Tests.{ltb-false, leb-true}
-use Rattle.domain.specs.Mask.{every, choose}
+use lib.ListN.{length, getElem?}
+use borrow.Author.Tests.{ltb-false}
+use Rattle.domain.specs.Mask.{choose}
 use Rattle.rules.specs.Signature.{Signature}
-use Rattle.rules.specs.Rule.{argumentsOf, signatureOf, ruleOf}
+use Rattle.rules.specs.Rule.{mostArguments, signatureOf, ruleOf}
 use Rattle.functions.specs.Functions.{functionCount, listingOf, ruleIn, ruleAt}
 use Rattle.rules.specs.declared.rule.Rule.{Rule}
 use Rattle.domain.specs.declared.refusal.Refusal.{Refusal}
 use Rattle.domain.specs.declared.refusal.Refusal.the-variants.{Unknown}
 use Rattle.rules.specs.declared.rule.RuleAnswer.the-variants as answered
+use Rattle.rules.proofs.Records.{record-says}
 use Rattle.worksheet.specs.declared.machine.Stack.{Stack}
 use Rattle.worksheet.specs.declared.machine.Stepped.{Stepped}
 use Rattle.worksheet.specs.TopLast.{applyLast}
-use Rattle.worksheet.specs.MachineStack.{mostArguments, Did, stop}
-use Rattle.worksheet.proofs.Tests.{both-left, both-right}
-use Rattle.worksheet.proofs.Database.{isShort, short, unknown-none}
+use Rattle.worksheet.specs.MachineStack.{Did}
+use Rattle.worksheet.proofs.Stacks.{stop}
+use Rattle.worksheet.proofs.Database.{four-arguments, unknown-none}
 
 clash : {A : Type 0} {q : Rule} {why : Refusal} → answered.Refused why ≡ answered.Rule q → A
 clash e = absurd (let z : _≡_ {A = ℕ} 0 1 = cc in omega arith)
-
-fields-back : (az : List ℕ) → length az ≤ mostArguments
-    → take (length az) (getD az 0 255 ∷ getD az 1 255 ∷ getD az 2 255 ∷ getD az 3 255 ∷ []) ≡ az
-fields-back [] h = refl
-fields-back (a ∷ []) h = refl
-fields-back (a ∷ b ∷ []) h = refl
-fields-back (a ∷ b ∷ c ∷ []) h = refl
-fields-back (a ∷ b ∷ c ∷ d ∷ []) h = refl
-fields-back (a ∷ b ∷ c ∷ d ∷ e ∷ az) h = absurd (omega arith)
-
-read-back : (r : Signature) → length (r .arguments) ≤ mostArguments → signatureOf (ruleOf r) ≡ r
-unfolding argumentsOf ruleOf
-read-back r h = ap (λ (az : List ℕ). record { arguments = az; result = r .result }) (fields-back (r .arguments) h)
 
 -- the rule of this record stands there
 pub record Stands (o : Option Signature) (q : Rule) : Type 0 where
@@ -49,15 +37,15 @@ pub record Stands (o : Option Signature) (q : Rule) : Type 0 where
 stands-first : (r : Signature) (q : Rule) → length (r .arguments) ≤ mostArguments → ruleOf r ≡ q → Stands (some r) q
 unfolding ruleOf
 stands-first r q h e = record {
-  rule-is = ap some (sym (read-back r h) ∙ ap signatureOf e);
+  rule-is = ap some (sym (record-says r h) ∙ ap signatureOf e);
   few = subst (λ (p : Rule). p .count ≤ mostArguments) e h;
 }
 
-stands-in : (rs : List Signature) (i : ℕ) (q : Rule) → every isShort rs ≡ true → ruleIn rs i ≡ answered.Rule q → Stands (getElem? rs i) q
+stands-in : (rs : List Signature) (i : ℕ) (q : Rule) → ((r : Signature) → getElem? rs i ≡ some r → length (r .arguments) ≤ mostArguments)
+    → ruleIn rs i ≡ answered.Rule q → Stands (getElem? rs i) q
 stands-in [] i q s e = clash e
-stands-in (r ∷ rs) zero q s e =
-    stands-first r q (leb-true (length (r .arguments)) mostArguments (both-left (isShort r) (every isShort rs) s)) (cc)
-stands-in (r ∷ rs) (suc i) q s e = stands-in rs i q (both-right (isShort r) (every isShort rs) s) e
+stands-in (r ∷ rs) zero q s e = stands-first r q (s r refl) (cc)
+stands-in (r ∷ rs) (suc i) q s e = stands-in rs i q s e
 
 none-in : (rs : List Signature) (i : ℕ) (why : Refusal) → ruleIn rs i ≡ answered.Refused why → getElem? rs i ≡ none
 none-in [] i why e = refl
@@ -71,7 +59,7 @@ module _ (f i : ℕ) where
     where
       go : (b : Bool) → answered.Rule q ≡ choose b (ruleIn (listingOf f) i) (answered.Refused (Unknown 0))
           → Stands (getElem? (listingOf f) i) q
-      go true p = stands-in (listingOf f) i q (short f) (sym p)
+      go true p = stands-in (listingOf f) i q (four-arguments f i) (sym p)
       go false p = clash (sym p)
 
   pub none-there : (why : Refusal) → answered.Refused why ≡ ruleAt f i → getElem? (listingOf f) i ≡ none

@@ -16,7 +16,7 @@ use Rattle.worksheet.specs.Tree.{Tree, Trees, leaf, call, none, more, no
 use Rattle.worksheet.specs.Line.{Line, leafLine, conversionLine, callLine, unlessSame, conversions, callLines}
 use Rattle.worksheet.specs.Machine.{ended, mostOperands, convertAt, apply, runBy, step, run}
 use Rattle.worksheet.specs.Meaning.{Gives, leafGives, callGives, GiveAll, noneGive, moreGive}
-use Rattle.worksheet.proofs.Tests.{same-same}
+use Rattle.worksheet.proofs.Likeness.{same-same}
 
 -- operands stand on the stack in reverse, the last on top
 convert-under : (ts s : List ℕ) (t a : ℕ) → eqb t a ≡ false → reaches t a ≡ true

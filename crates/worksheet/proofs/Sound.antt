@@ -11,8 +11,8 @@ use lib.Dec.{eqb, leb, ltb}
 use lib.ListN.{length, drop, length-append}
 use Rattle.domain.specs.Mask.{choose}
 use Rattle.domain.specs.declared.refusal.Refusal.{Refusal}
-use Rattle.worksheet.specs.Tree.{Tree, Trees, count, bytesOf, bytesOfAll, nodes, nodesAll, levels, levelsAll, Known, KnownAll, mostNodes, lastLeaf, callTag}
-use Rattle.worksheet.specs.Reading.{Reading, done, refused, Readings, allDone, stopped, demand, inFront, andThen, argsAt, callOf, typeTag, present, byteAt, leafAt, callAt, taggedAt, nodeAt}
+use Rattle.worksheet.specs.Tree.{Tree, Trees, count, bytesOf, bytesOfAll, nodes, nodesAll, levels, levelsAll, Known, KnownAll, mostNodes, lastLeaf, leafTag, callTag}
+use Rattle.worksheet.specs.Reading.{Reading, done, refused, Readings, allDone, stopped, demand, inFront, andThen, argsAt, callOf, present, byteAt, leafAt, callAt, taggedAt, nodeAt}
 use Rattle.worksheet.proofs.Bytes.{head-at}
 
 -- the tree e has at most d levels, its bytes reach from `at` to `next`, and its nodes bring the number from n to m
@@ -100,7 +100,7 @@ module _ (functions : ℕ) (s : List ℕ) (d : ℕ) where
   args-sound node k (suc left) at n here few = then-sound left at n (node at n) (argsAt node left) (k at n) (args-sound node k left)
 
   module _ (at n : ℕ) (here : at < length s) (few : n < mostNodes) where
-    leaf-sound : byteAt s at ≡ typeTag → Sound functions s (suc d) at n (leafAt s at n)
+    leaf-sound : byteAt s at ≡ leafTag → Sound functions s (suc d) at n (leafAt s at n)
     unfolding leafAt bytesOf nodes levels Known
     leaf-sound tag =
         demanded functions s (suc d) at n (present s (at + 1)) _ _ λ p.
@@ -148,7 +148,7 @@ module _ (functions : ℕ) (s : List ℕ) (d : ℕ) where
     tagged-sound : (node : ℕ → ℕ → Reading) → Nodes node → Sound functions s (suc d) at n (taggedAt functions s node at n)
     unfolding taggedAt
     tagged-sound node k =
-        either-way functions s (suc d) at n (eqb (byteAt s at) typeTag) _ _
+        either-way functions s (suc d) at n (eqb (byteAt s at) leafTag) _ _
         (λ t. leaf-sound (eqb-true _ _ t))
         (λ _. either-way functions s (suc d) at n (eqb (byteAt s at) callTag) _ _
         (λ t. call-sound node k (eqb-true _ _ t))

@@ -14,20 +14,24 @@ use lib.Seq.{length-take-le, take-suc, take-suc-set, take-set-lt, take-take, get
 use borrow.Author.Tests.{lt-ltb, le-ltb, le-leb, lt-leb, eq-eqb, ne-eqb}
 use Rattle.domain.specs.Mask.{both, headOr}
 use Rattle.rules.specs.Signature.{reaches}
-use Rattle.rules.specs.Rule.{argumentsOf, signatureOf}
+use Rattle.rules.specs.Rule.{mostArguments, argumentsOf, signatureOf}
 use Rattle.rules.specs.declared.rule.Rule.{Rule}
+use Rattle.rules.proofs.Rules.{count-of}
 use Rattle.worksheet.specs.declared.machine.Run.the-variants.{Ended}
 use Rattle.worksheet.specs.declared.machine.Stack.{Stack}
 use Rattle.worksheet.specs.declared.machine.Stepped.{Stepped}
 use Rattle.worksheet.specs.Line.{onlyIf}
 use Rattle.worksheet.specs.Machine.{mostOperands, convertible, same}
 use Rattle.worksheet.specs.TopLast.{pushLast, convertLast, applyLast}
-use Rattle.worksheet.specs.MachineStack.{ranLast, operandsOf, InBounds, Did, stop, mostArguments, fieldsOf, alikeFrom}
+use Rattle.worksheet.specs.MachineStack.{ranLast, operandsOf, InBounds, Did, alikeFrom}
 
--- a rule has as many arguments as it counts
+-- a rule that counts no more arguments than its record holds has as many as it counts
 pub arity : (q : Rule) → q .count ≤ mostArguments → length (argumentsOf q) ≡ q .count
-unfolding argumentsOf
-arity q short = length-take-le (q .count) (fieldsOf q) short
+arity q short = omega (arith, count-of q)
+
+-- the answer of a line that stops, with the stack as it was
+abbrev pub stop : Stack → Stepped
+stop k = record { done = false; stack = k }
 
 module _ (k : Stack) (fits : InBounds k) where
   pub counted : length (operandsOf k) ≡ k .top

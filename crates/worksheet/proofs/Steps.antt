@@ -11,8 +11,8 @@ use Rattle.domain.specs.declared.refusal.Refusal.{Refusal}
 use Rattle.domain.specs.declared.refusal.Refusal.the-variants.{Unknown, IllFormed, TooLarge}
 use Rattle.worksheet.specs.declared.expression.Step.the-variants.{Past, Fault}
 use Rattle.worksheet.specs.declared.expression.Read.the-variants.{Accepted, Refused}
-use Rattle.worksheet.specs.Tree.{Tree, mostNodes, deepest, lastLeaf, callTag}
-use Rattle.worksheet.specs.Reading.{Reading, done, refused, Readings, allDone, stopped, inFront, andThen, argsAt, callOf, typeTag, byteAt, leafAt, callAt, taggedAt, nodeAt, whole, expressionOf}
+use Rattle.worksheet.specs.Tree.{Tree, mostNodes, deepest, lastLeaf, leafTag, callTag}
+use Rattle.worksheet.specs.Reading.{Reading, done, refused, Readings, allDone, stopped, inFront, andThen, argsAt, callOf, byteAt, leafAt, callAt, taggedAt, nodeAt, whole, expressionOf}
 use Rattle.worksheet.specs.FirstPass.{stepOf, stepOfAll, levelsLeft, readOf}
 use Rattle.worksheet.proofs.Bytes.{bytes-least}
 use Rattle.worksheet.proofs.Sound.{Sound, node-sound}
@@ -77,14 +77,14 @@ module _ (functions : ℕ) (s : List ℕ) (at n : ℕ) where
           let e : levelsLeft depth ≡ suc (levelsLeft (depth + 1)) = omega arith in
           ap (λ d. nodeAt functions s d at n) e ∙ simp (lt-ltb at (length s) here, lt-ltb n mostNodes few)
 
-      pub leaf-node : byteAt s at ≡ typeTag → stepOf (leafAt s at n) ≡ stepOf (nodeAt functions s (levelsLeft depth) at n)
+      pub leaf-node : byteAt s at ≡ leafTag → stepOf (leafAt s at n) ≡ stepOf (nodeAt functions s (levelsLeft depth) at n)
       unfolding taggedAt
-      leaf-node tag = sym (ap stepOf allowed ∙ simp (eq-eqb (byteAt s at) typeTag tag))
+      leaf-node tag = sym (ap stepOf allowed ∙ simp (eq-eqb (byteAt s at) leafTag tag))
 
-      pub unknown-tag : (byteAt s at ≡ typeTag → ⊥) → (byteAt s at ≡ callTag → ⊥)
+      pub unknown-tag : (byteAt s at ≡ leafTag → ⊥) → (byteAt s at ≡ callTag → ⊥)
           → Fault (IllFormed at) ≡ stepOf (nodeAt functions s (levelsLeft depth) at n)
       unfolding taggedAt
-      unknown-tag l c = sym (ap stepOf allowed ∙ simp (ne-eqb (byteAt s at) typeTag l, ne-eqb (byteAt s at) callTag c))
+      unknown-tag l c = sym (ap stepOf allowed ∙ simp (ne-eqb (byteAt s at) leafTag l, ne-eqb (byteAt s at) callTag c))
 
       module _ (tag : byteAt s at ≡ callTag) where
         call-node : nodeAt functions s (levelsLeft depth) at n ≡ callAt functions s (nodeAt functions s (levelsLeft (depth + 1))) at n

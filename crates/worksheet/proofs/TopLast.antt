@@ -13,9 +13,14 @@ use Rattle.domain.specs.Mask.{both}
 use Rattle.rules.specs.Signature.{Signature}
 use Rattle.worksheet.specs.Tree.{lastLeaf}
 use Rattle.worksheet.specs.Line.{Line, leafLine, conversionLine, callLine, onlyIf, lineOf}
-use Rattle.worksheet.specs.Machine.{Outcome, mostOperands, push, convertible, convertAt, same, apply, next, stepIf, runBytesBy, step, runBytes}
-use Rattle.worksheet.specs.TopLast.{pushLast, convertLast, applyLast, stepLast, runBytesLast, turned}
-use Rattle.worksheet.proofs.Tests.{same-same, same-is}
+use Rattle.worksheet.specs.Machine.{Outcome, ended, stopped, mostOperands, push, convertible, convertAt, same, apply, next, stepIf, runBytesBy, step, runBytes}
+use Rattle.worksheet.specs.TopLast.{pushLast, convertLast, applyLast, stepLast}
+use Rattle.worksheet.proofs.Likeness.{same-same, same-is}
+
+-- an outcome with its stack turned over
+abbrev pub turned : Outcome → Outcome
+turned (ended s) = ended (reverse s)
+turned (stopped n) = stopped n
 
 -- a stack turned over
 turnedStack : Option (List ℕ) → Option (List ℕ)
@@ -143,5 +148,9 @@ module _ (listingOf : ℕ → List Signature) where
       (λ (s′ : List ℕ). runBytesBy (stepLast listingOf) rest (suc n) s′)
       (λ s′. run-turned rest (suc n) s′) (stepIf (step listingOf) (lineOf a b c d) s))
 
-  pub top-last : (bs : List ℕ) → runBytesLast listingOf bs ≡ turned (runBytes listingOf bs)
+  -- from the empty stack
+  abbrev pub runBytesLast : List ℕ → Outcome
+  runBytesLast bs = runBytesBy (stepLast listingOf) bs 0 []
+
+  pub top-last : (bs : List ℕ) → runBytesLast bs ≡ turned (runBytes listingOf bs)
   top-last bs = run-turned bs 0 []

@@ -1,4 +1,4 @@
--- The answer for a tree and a lent buffer: 'Room (10) comes last', the paper's number, place and type, and the buffer afterwards.
+-- The answer for a tree and a lent buffer: 'Room (10) comes last', and the buffer afterwards.
 use mathlib.Core.Bool.{Bool}
 use mathlib.Core.List.{List, _++_}
 use Prim.Native.Nat.{ℕ}
@@ -6,7 +6,6 @@ use lib.Dec.{leb}
 use lib.ListN.{length, drop}
 use Rattle.domain.specs.Mask.{choose}
 use Rattle.rules.specs.Signature.{Signature}
-use Rattle.domain.specs.Refusal.{numberOf, placeOf}
 use Rattle.domain.specs.declared.refusal.Refusal.the-variants.{NoRoom}
 use Rattle.worksheet.specs.Tree.{Tree}
 use Rattle.worksheet.specs.Line.{encode}
@@ -25,18 +24,6 @@ enoughBytes = 508
 -- the expression begins at offset 0
 unfoldable pub answer : (ℕ → List Signature) → Bool → Tree → List ℕ → Typed
 answer listingOf switch e buffer = withRoom buffer (typeOf listingOf switch e 0)
-
-abbrev pub numberIn : Typed → ℕ
-numberIn (typed t ls) = 0
-numberIn (refused why) = numberOf why
-
-abbrev pub placeIn : Typed → ℕ
-placeIn (typed t ls) = 0
-placeIn (refused why) = placeOf why
-
-abbrev pub typeIn : Typed → ℕ
-typeIn (typed t ls) = t
-typeIn (refused why) = 255
 
 -- an accepted worksheet fills the front and the bytes behind it keep theirs; on a refusal the buffer keeps its contents
 abbrev pub bufferAfter : Typed → List ℕ → List ℕ

@@ -1,12 +1,12 @@
--- 'Answers by number', 5, 6 and 1 in an expression: which call is at fault, what is wrong there, and the place.
-use mathlib.Core.Path.{_≡_}
+-- 'Answers by number', 5, 6 and 1 in an expression: which call is at fault, what is wrong there, as `overloads` says it of a single call
+-- in its `specs/Taking.antt`, and the place.
 use mathlib.Core.Bool.{Bool}
 use mathlib.Core.List.{List}
-use Prim.Native.Nat.{ℕ, _<_}
-use lib.ListN.{length, getD}
+use Prim.Native.Nat.{ℕ}
+use lib.ListN.{getD}
 use Rattle.rules.specs.Signature.{Signature}
-use Rattle.rules.specs.Verdict.{longest}
-use Rattle.overloads.specs.Taking.{NoRule, LeftAfter}
+use Rattle.overloads.specs.Choice.{wrongCount, noneAfter, noneConcrete}
+use Rattle.overloads.specs.Taking.{Says}
 use Rattle.domain.specs.declared.refusal.Refusal.{Refusal}
 use Rattle.domain.specs.declared.refusal.Refusal.the-variants.{EmptySet, WrongCount, NoRuleLeft}
 use Rattle.worksheet.specs.Tree.{Tree, Trees, call, more}
@@ -14,14 +14,12 @@ use Rattle.worksheet.specs.Places.{inside, behind, starts}
 use Rattle.worksheet.specs.Line.{Line}
 use Rattle.worksheet.specs.Meaning.{Gives, GiveAll}
 
--- what is wrong with a call of these operands: their number (5); the first of them after which no rule is left (6); or, with a rule
--- left after each, that none takes them all, as when the concrete-only step leaves no rule (1)
+-- what is wrong with a call of these operands, and where: their number (5); the first of them after which no rule is left (6); or, with
+-- a rule left after each, that none takes them all, as when the concrete-only step leaves no rule (1)
 pub data Fault (switch : Bool) (rules : List Signature) (ts : List ℕ) (at : ℕ) (places : List ℕ) : Refusal → Type 0 where
-  wrongNumber : (length ts ≡ longest rules → ⊥) → Fault switch rules ts at places (WrongCount at)
-  noneLeft : {k : ℕ} → length ts ≡ longest rules → k < length ts → ((j : ℕ) → j < k → LeftAfter rules ts j) → (LeftAfter rules ts k → ⊥)
-      → Fault switch rules ts at places (NoRuleLeft (getD places k 0))
-  noneTakes : length ts ≡ longest rules → ((j : ℕ) → j < length ts → LeftAfter rules ts j) → NoRule switch rules ts
-      → Fault switch rules ts at places (EmptySet at)
+  wrongNumber : Says switch rules ts wrongCount → Fault switch rules ts at places (WrongCount at)
+  noneLeft : {k : ℕ} → Says switch rules ts (noneAfter k) → Fault switch rules ts at places (NoRuleLeft (getD places k 0))
+  noneTakes : Says switch rules ts noneConcrete → Fault switch rules ts at places (EmptySet at)
 
 module _ (listingOf : ℕ → List Signature) (switch : Bool) where
   -- an expression whose first byte is at this offset fails so: arguments before their call, left to right

@@ -8,10 +8,6 @@ use Rattle.worksheet.specs.declared.expression.Read.the-variants.{Accept
 use Rattle.worksheet.specs.Tree.{nodes, deepest}
 use Rattle.worksheet.specs.Reading.{Reading, done, refused, Readings, allDone, stopped, Expression, read, refusedAs}
 
--- the number of functions, Abs 0 to InsertBits 78
-abbrev pub functionsKnown : ℕ
-functionsKnown = 79
-
 -- where a node's reading got to
 abbrev pub stepOf : Reading → Step
 stepOf (done e at nodes) = Past at nodes

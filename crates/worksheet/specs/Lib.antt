@@ -1,3 +1,4 @@
+-- What the contracts and theorems of this crate say: expressions, their reading and typing, worksheets and the strict machine.
 pub mod Tree
 pub mod Reading
 pub mod FirstPass
@@ -9,6 +10,7 @@ pub mod Typer
 pub mod Answer
 pub mod Meaning
 pub mod Fault
+pub mod Demand3
 pub mod Sheet
 pub mod Stack
 pub mod Typing

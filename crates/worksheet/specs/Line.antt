@@ -2,7 +2,7 @@
 use mathlib.Core.Bool.{Bool, true, false}
 use mathlib.Core.List.{List, [], _∷_, _++_}
 use mathlib.Core.Option.{Option, none, some}
-use Prim.Native.Nat.{ℕ, _<_}
+use Prim.Native.Nat.{ℕ}
 use lib.Dec.{eqb}
 use lib.ListN.{length}
 use Rattle.domain.specs.Mask.{choose, both}
@@ -31,7 +31,8 @@ conversions (t ∷ ts) (a ∷ az) = unlessSame (eqb t a) (conversionLine (length
 abbrev pub callLines : ℕ → ℕ → List ℕ → Signature → List Line
 callLines f i ts r = conversions ts (r .arguments) ++ (callLine f i (length ts) ∷ [])
 
--- bytes. Leaf: 0, type, 0, 0. Call: 1, function, index, number of arguments. Conversion: 2, depth, type, 0
+-- bytes, the first of which marks the kind of line. Leaf: 0, type, 0, 0. Call: 1, function, index, number of arguments. Conversion:
+-- 2, depth, type, 0. An expression's tags are numbered apart (specs/Tree.antt)
 abbrev pub leafMark : ℕ
 leafMark = 0
 
@@ -49,11 +50,6 @@ fourBytes (conversionLine d a) = conversionMark ∷ d ∷ a ∷ 0 ∷ []
 unfoldable pub encode : List Line → List ℕ
 encode [] = []
 encode (l ∷ ls) = fourBytes l ++ encode ls
-
--- every number is a byte
-abbrev pub AreBytes : List ℕ → Type 0
-AreBytes [] = Unit
-AreBytes (b ∷ bs) = (b < 256) × AreBytes bs
 
 -- and back: an unknown tag, or a spare byte that isn't 0, spells no line
 abbrev pub onlyIf {ℓ} : {A : Type ℓ} → Bool → Option A → Option A

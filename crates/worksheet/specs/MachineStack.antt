@@ -2,7 +2,7 @@
 -- topmost last, and a line leaves another stack or stops.
 use mathlib.Core.Path.{_≡_}
 use mathlib.Core.Bool.{Bool, true, false}
-use mathlib.Core.List.{List, [], _∷_, reverse}
+use mathlib.Core.List.{List, reverse}
 use mathlib.Core.Option.{Option, none, some}
 use Prim.Native.Nat.{ℕ, _-_, _≤_}
 use lib.Dec.{leb}
@@ -42,10 +42,6 @@ abbrev pub Did : Option (List ℕ) → Stepped → Type 0
 Did none r = r .done ≡ false
 Did (some s) r = Done s r
 
--- the answer of a line that stops, with the stack as it was
-abbrev pub stop : Stack → Stepped
-stop k = record { done = false; stack = k }
-
 -- a leaf's line, behind the test of its spare bytes
 abbrev pub leafDone : ℕ → List ℕ → Option (List ℕ)
 leafDone t s = onlyIf (leb t lastLeaf) (pushLast t s)
@@ -53,13 +49,6 @@ leafDone t s = onlyIf (leb t lastLeaf) (pushLast t s)
 -- the end of a run with this stack, whose top is last
 abbrev pub ranLast : List ℕ → Run
 ranLast s = ranOf (ended (reverse s))
-
--- a rule's record has so many fields for arguments
-abbrev pub mostArguments : ℕ
-mostArguments = 4
-
-abbrev pub fieldsOf : Rule → List ℕ
-fieldsOf r = r .a0 ∷ r .a1 ∷ r .a2 ∷ r .a3 ∷ []
 
 -- the topmost operands are exactly of the rule's types, from argument i on
 abbrev pub alikeFrom : ℕ → Stack → Rule → Bool

@@ -1,5 +1,7 @@
--- What it means that an expression is typed, or that it is stuck, apart from the steps that find it out. Which rule takes operands, and
--- which of them a call means, `overloads` says in its `specs/Taking.antt`.
+-- What demand 3 speaks of, said without the steps that find it out. An expression's own leaves and calls, and those of a worksheet
+-- (`order`, `ownOf`). An expression gives a type and lines (`Gives`) when each call in it has a rule that takes its operands, and goes by
+-- the first one. It is stuck (`Stuck`) when some call in it, whose arguments all give types, has no rule for their number and types.
+-- Which rules take operands, and which of them is the first, `overloads` says in its `specs/Taking.antt`.
 use mathlib.Core.Bool.{Bool}
 use mathlib.Core.List.{List, [], _∷_, _++_}
 use Prim.Native.Nat.{ℕ}

@@ -9,7 +9,7 @@ use lib.ListN.{length, getD}
 use Rattle.domain.specs.Mask.{choose}
 use Rattle.domain.specs.declared.refusal.Refusal.{Refusal}
 use Rattle.domain.specs.declared.refusal.Refusal.the-variants.{Unknown, IllFormed, TooLarge}
-use Rattle.worksheet.specs.Tree.{Tree, Trees, leaf, call, none, more, mostNodes, deepest, lastLeaf, callTag}
+use Rattle.worksheet.specs.Tree.{Tree, Trees, leaf, call, none, more, mostNodes, deepest, lastLeaf, leafTag, callTag}
 
 -- the tree of a node, the offset behind it and the number of nodes read so far; or the first fault
 pub data Reading : Type 0 where
@@ -45,10 +45,6 @@ abbrev pub callOf : ℕ → Readings → Reading
 callOf f (allDone es at nodes) = done (call f es) at nodes
 callOf f (stopped fault) = refused fault
 
--- the tag of a leaf that has nothing but a type
-abbrev pub typeTag : ℕ
-typeTag = 0
-
 -- the byte at an offset is present
 abbrev pub present : List ℕ → ℕ → Bool
 present s at = ltb at (length s)
@@ -75,7 +71,7 @@ callAt functions s node at nodes =
 -- a node by its tag, which is known (8)
 unfoldable pub taggedAt : ℕ → List ℕ → (ℕ → ℕ → Reading) → ℕ → ℕ → Reading
 taggedAt functions s node at nodes =
-    choose (eqb (byteAt s at) typeTag) (leafAt s at nodes)
+    choose (eqb (byteAt s at) leafTag) (leafAt s at nodes)
     (choose (eqb (byteAt s at) callTag) (callAt functions s node at nodes)
     (refused (IllFormed at)))
 

@@ -1,56 +1,38 @@
 -- 'Readings at the bench': the marked readings as one table. `asked` asks the very definitions that the public promises cite, and
--- `paper` is what document 01 says; a row is number, place, and the values that the reading names.
+-- `paper` is what document 01 says; a row is the paper's number, its place, and the values that the reading names.
 use mathlib.Core.Bool.{false}
-use mathlib.Core.List.{List, [], _∷_}
+use mathlib.Core.List.{List, [], _∷_, map}
 use Prim.Native.Nat.{ℕ}
-use lib.ListN.{replicate}
-use Rattle.domain.specs.Refusal.{numberOf, placeOf}
+use lib.ListN.{getD, replicate}
+use Rattle.domain.specs.Paper.{Paper, scalarPaper}
 use Rattle.domain.specs.Conversion.{consensusOf}
 use Rattle.domain.specs.declared.conversion.Base.{Base}
 use Rattle.domain.specs.declared.conversion.Base.the-variants as base
-use Rattle.domain.specs.declared.scalar_set.ScalarAnswer.{ScalarAnswer}
-use Rattle.domain.specs.declared.scalar_set.ScalarAnswer.the-variants as scalar
 use Rattle.functions.specs.Functions.{functionCount, listingOf}
 use Rattle.overloads.specs.Call.{callOf, survivorsOfCall}
-use Rattle.overloads.specs.declared.call.CallAnswer.{CallAnswer}
-use Rattle.overloads.specs.declared.call.CallAnswer.the-variants as call
-use Rattle.overloads.specs.declared.call.Survivors.{Survivors}
-use Rattle.overloads.specs.declared.call.Survivors.the-variants as survivors
-use Rattle.worksheet.specs.Typer.{Typed}
-use Rattle.worksheet.specs.Answer.{numberIn, placeIn, typeIn}
-use Rattle.worksheet.specs.Typing.{typing}
+use Rattle.overloads.specs.CallPaper.{callPaper, survivorsPaper}
+use Rattle.worksheet.specs.Answer.{enoughBytes}
+use Rattle.worksheet.specs.Typing.{typing, answerOf, typePaper}
 
--- number, place, index, type
-abbrev callRow : CallAnswer → List ℕ
-callRow (call.Rule c) = 0 ∷ 0 ∷ c .index ∷ c .rule .result ∷ []
-callRow (call.Refused why) = numberOf why ∷ placeOf why ∷ 255 ∷ 255 ∷ []
+-- number, place, and the values at these indices
+abbrev row : List ℕ → Paper → List ℕ
+row is p = p .number ∷ p .place ∷ map (λ i. getD (p .values) i 255) is
 
--- number, place, mask of the survivors
-abbrev survivorsRow : Survivors → List ℕ
-survivorsRow (survivors.Members m) = 0 ∷ 0 ∷ m ∷ []
-survivorsRow (survivors.Refused why) = numberOf why ∷ placeOf why ∷ 0 ∷ []
-
--- number, place, scalar
-abbrev scalarRow : ScalarAnswer → List ℕ
-scalarRow (scalar.Scalar s) = 0 ∷ 0 ∷ s .0 ∷ []
-scalarRow (scalar.Refused why) = numberOf why ∷ placeOf why ∷ 255 ∷ []
-
--- number, place, type
-abbrev typeRow : Typed → List ℕ
-typeRow x = numberIn x ∷ placeIn x ∷ typeIn x ∷ []
-
--- the concrete-only switch is off
+-- of a call the rule's index and its result; the concrete-only switch is off
 abbrev called : ℕ → List ℕ → List ℕ
-called f ts = callRow (callOf functionCount listingOf false f ts)
+called f ts = row (0 ∷ 6 ∷ []) (callPaper (callOf functionCount listingOf false f ts))
 
+-- the mask of the survivors
 abbrev surviving : ℕ → List ℕ → List ℕ
-surviving f ts = survivorsRow (survivorsOfCall functionCount listingOf false f ts)
+surviving f ts = row (0 ∷ []) (survivorsPaper (survivorsOfCall functionCount listingOf false f ts))
 
+-- the scalar
 abbrev agreed : Base → List ℕ → List ℕ
-agreed b ts = scalarRow (consensusOf b ts)
+agreed b ts = row (0 ∷ []) (scalarPaper (consensusOf b ts))
 
+-- the type
 abbrev typedAs : List ℕ → List ℕ
-typedAs s = typeRow (typing false s (replicate 508 255))
+typedAs s = row (0 ∷ []) (typePaper (answerOf (typing false s (replicate enoughBytes 255))))
 
 -- Clamp 4, Sin 5, Pow 32, Distance 66, Mix 72, Transpose 74
 unfoldable pub asked : List (List ℕ)

@@ -33,10 +33,6 @@ use Rattle.worksheet.specs.Typer.{Typed, typed, refused, Operands, opera
 use Rattle.worksheet.specs.Sheet.{Wrote, written, roomFor, placed}
 use Rattle.worksheet.specs.Stack.{typesOn, startsOn, Full, Pushed}
 
--- the four fields of a rule for its arguments
-abbrev pub fieldsOf : Rule → List ℕ
-fieldsOf r = r .a0 ∷ r .a1 ∷ r .a2 ∷ r .a3 ∷ []
-
 -- a wrong count (5) stands at the call's tag, an operand that no rule takes (6) at its first byte, and an empty set (1) at the
 -- call's tag again; the first operand's offset is at the index `from`
 abbrev pub placedAt : ℕ → ℕ → List ℕ → Refusal → Refusal

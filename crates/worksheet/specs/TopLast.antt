@@ -1,5 +1,5 @@
 -- 'The strict machine' with the stack's top last, as an array holds it: the same steps, counted from the end.
-use mathlib.Core.List.{List, [], _∷_, _++_, reverse}
+use mathlib.Core.List.{List, [], _∷_, _++_}
 use mathlib.Core.Option.{Option, none, some}
 use Prim.Native.Nat.{ℕ, suc, _-_}
 use lib.Dec.{leb, ltb, eqb}
@@ -8,7 +8,7 @@ use Rattle.domain.specs.Mask.{both}
 use Rattle.rules.specs.Signature.{Signature}
 use Rattle.worksheet.specs.Tree.{lastLeaf}
 use Rattle.worksheet.specs.Line.{leafLine, conversionLine, callLine, onlyIf}
-use Rattle.worksheet.specs.Machine.{Outcome, ended, stopped, mostOperands, convertible, same, Stepper, runBytesBy}
+use Rattle.worksheet.specs.Machine.{mostOperands, convertible, same, Stepper}
 
 abbrev pub pushLast : ℕ → List ℕ → Option (List ℕ)
 pushLast t s = onlyIf (ltb (length s) mostOperands) (some (s ++ (t ∷ [])))
@@ -28,11 +28,3 @@ module _ (listingOf : ℕ → List Signature) where
   stepLast (leafLine l) s = onlyIf (leb (l .type) lastLeaf) (pushLast (l .type) s)
   stepLast (conversionLine d a) s = convertLast d a s
   stepLast (callLine f i n) s = applyLast n s (getElem? (listingOf f) i)
-
-  abbrev pub runBytesLast : List ℕ → Outcome
-  runBytesLast bs = runBytesBy stepLast bs 0 []
-
--- an outcome with its stack turned over
-abbrev pub turned : Outcome → Outcome
-turned (ended s) = ended (reverse s)
-turned (stopped n) = stopped n

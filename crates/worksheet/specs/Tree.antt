@@ -1,5 +1,5 @@
 -- 'Expressions': trees, their prefix bytes and their limits, apart from any way of reading them.
-use Prim.Native.Nat.{ℕ, zero, suc, _+_, _≤_, _<_, max}
+use Prim.Native.Nat.{ℕ, suc, _+_, _≤_, _<_, max}
 use mathlib.Core.List.{List, [], _∷_, _++_}
 
 -- a leaf names the type of an operand
@@ -30,8 +30,8 @@ count none = 0
 count (more e es) = suc (count es)
 
 -- prefix bytes. Leaf: 0, type code. Call: 1, function, number of arguments, then the arguments
-abbrev pub leafTag : Leaf → ℕ
-leafTag l = 0
+abbrev pub leafTag : ℕ
+leafTag = 0
 
 abbrev pub callTag : ℕ
 callTag = 1
@@ -40,7 +40,7 @@ unfoldable mutual
   unfolding count
 
   pub bytesOf : Tree → List ℕ
-  bytesOf (leaf l) = leafTag l ∷ l .type ∷ []
+  bytesOf (leaf l) = leafTag ∷ l .type ∷ []
   bytesOf (call f es) = callTag ∷ f ∷ count es ∷ bytesOfAll es
 
   pub bytesOfAll : Trees → List ℕ

@@ -3,14 +3,14 @@
 use mathlib.Core.Bool.{Bool}
 use mathlib.Core.List.{List, [], _∷_}
 use Prim.Native.Nat.{ℕ}
-use Rattle.domain.specs.Paper.{Paper}
+use Rattle.domain.specs.Paper.{Paper, accepted, refused}
 use Rattle.rules.specs.Signature.{Signature}
 use Rattle.functions.specs.Functions.{functionCount, listingOf}
 use Rattle.worksheet.specs.declared.typer.TypeAnswer.{TypeAnswer}
 use Rattle.worksheet.specs.declared.typer.TypeAnswer.the-variants.{Typed, Refused}
 use Rattle.worksheet.specs.Reading.{Expression, read, refusedAs, expressionOf}
 use Rattle.worksheet.specs.Typer as typer
-use Rattle.worksheet.specs.Answer.{answer, numberIn, placeIn, typeIn}
+use Rattle.worksheet.specs.Answer.{answer}
 
 -- a fault of the first pass is the answer; a tree that was read is typed
 abbrev pub afterReading : (ℕ → List Signature) → Bool → List ℕ → Expression → typer.Typed
@@ -31,9 +31,6 @@ answerOf (typer.typed t ls) = Typed t
 answerOf (typer.refused why) = Refused why
 
 -- the paper's number, place and type of each case, 255 for the type of what is refused
-abbrev pub typedOf : TypeAnswer → typer.Typed
-typedOf (Typed t) = typer.typed t []
-typedOf (Refused why) = typer.refused why
-
 abbrev pub typePaper : TypeAnswer → Paper
-typePaper a = record { number = numberIn (typedOf a); place = placeIn (typedOf a); values = typeIn (typedOf a) ∷ [] }
+typePaper (Typed t) = accepted (t ∷ [])
+typePaper (Refused why) = refused why (255 ∷ [])

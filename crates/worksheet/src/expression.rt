@@ -8,24 +8,24 @@
 ghost use mathlib.Core.Path.{_≡_};
 ghost use Prim.Native.Nat.{_<_};
 ghost use lib.ListN.{length};
+ghost use Rattle.functions.specs.Functions.{functionCount};
 ghost use Rattle.worksheet.specs.Tree.{mostNodes};
 ghost use Rattle.worksheet.specs.Reading.{leafAt, argsAt, nodeAt, expressionOf};
-ghost use Rattle.worksheet.specs.FirstPass.{functionsKnown, levelsLeft, stepOf, stepOfAll, readOf};
+ghost use Rattle.worksheet.specs.FirstPass.{levelsLeft, stepOf, stepOfAll, readOf};
 use domain::Refusal;
+use functions::FUNCTION_COUNT;
 
 // An expression has at most so many nodes.
-pub const MOST_NODES: usize = 64;
+pub(crate) const MOST_NODES: usize = 64;
 // The root has depth 1, the deepest node this one.
 const DEEPEST: usize = 16;
 // The type codes of leaves are 0 to this one.
-pub const LAST_LEAF: u8 = 156;
-// The functions are numbered from 0, and there are so many.
-const FUNCTIONS: u8 = 79;
+pub(crate) const LAST_LEAF: u8 = 156;
 
 // The tag of a leaf.
-pub const LEAF: u8 = 0;
+pub(crate) const LEAF: u8 = 0;
 // The tag of a call.
-pub const CALL: u8 = 1;
+const CALL: u8 = 1;
 
 // What the first pass answers.
 pub enum Read {
@@ -46,7 +46,7 @@ enum Step {
 // Reads a whole expression: its number of nodes, or the first fault from front to back. Bytes left over behind the root are the
 // last fault that is looked for.
 pub fn read_expression(bytes: &[u8]) -> Read
-    ensures { λ r. ⌜ r ≡ readOf (expressionOf functionsKnown (now (bytes .entry))) ⌝ }
+    ensures { λ r. ⌜ r ≡ readOf (expressionOf functionCount (now (bytes .entry))) ⌝ }
 {
     let root = read_node(bytes, 0, 0, 1);
     match root {
@@ -62,7 +62,7 @@ pub fn read_expression(bytes: &[u8]) -> Read
 
 // Reads the node at `at`, which has `nodes` nodes before it and stands at the depth `depth`.
 fn read_node(bytes: &[u8], at: usize, nodes: usize, depth: usize) -> Step
-    ensures { λ r. ⌜ r ≡ stepOf (nodeAt functionsKnown (now (bytes .entry)) (levelsLeft depth) at nodes) ⌝ }
+    ensures { λ r. ⌜ r ≡ stepOf (nodeAt functionCount (now (bytes .entry)) (levelsLeft depth) at nodes) ⌝ }
 {
     if bytes.len() <= at {
         return Step::Fault(Refusal::IllFormed(at));
@@ -82,7 +82,7 @@ fn read_node(bytes: &[u8], at: usize, nodes: usize, depth: usize) -> Step
         if bytes.len() <= function {
             return Step::Fault(Refusal::IllFormed(function));
         }
-        if FUNCTIONS <= bytes[function] {
+        if FUNCTION_COUNT <= bytes[function] {
             return Step::Fault(Refusal::Unknown(function));
         }
         let count = at + 2;
@@ -97,7 +97,7 @@ fn read_node(bytes: &[u8], at: usize, nodes: usize, depth: usize) -> Step
 
 // Reads `left` nodes one after the other, each at the depth `depth`.
 fn read_arguments(bytes: &[u8], at: usize, left: usize, nodes: usize, depth: usize) -> Step
-    ensures { λ r. ⌜ r ≡ stepOfAll (argsAt (nodeAt functionsKnown (now (bytes .entry)) (levelsLeft depth)) left at nodes) ⌝ }
+    ensures { λ r. ⌜ r ≡ stepOfAll (argsAt (nodeAt functionCount (now (bytes .entry)) (levelsLeft depth)) left at nodes) ⌝ }
 {
     if left == 0 {
         return Step::Past(at, nodes);

@@ -1,5 +1,6 @@
 // Expressions of calls, their types and their worksheets, and the strict machine that runs worksheets.
 mod expression;
+mod line;
 mod machine;
 mod one_call;
 mod progress;

@@ -9,33 +9,27 @@ ghost use mathlib.Core.List.{[]};
 ghost use mathlib.Core.Option.{some};
 ghost use Prim.Native.Nat.{_≤_};
 ghost use lib.Dec.{eqb};
-ghost use lib.ListN.{getD, getElem?};
-ghost use Rattle.rules.specs.Rule.{signatureOf};
+ghost use lib.ListN.{getElem?};
+ghost use Rattle.rules.specs.Rule.{mostArguments, signatureOf};
 ghost use Rattle.functions.specs.Functions.{listingOf};
 ghost use Rattle.worksheet.specs.Line.{lineOf};
 ghost use Rattle.worksheet.specs.Machine.{stepIf, runBytes};
 ghost use Rattle.worksheet.specs.TopLast.{pushLast, convertLast, applyLast, stepLast};
 ghost use Rattle.worksheet.specs.Run.{ranOf};
-ghost use Rattle.worksheet.specs.MachineStack.{mostArguments, fieldsOf, alikeFrom, InBounds, operandsOf, Holds, Did, leafDone, ranLast};
+ghost use Rattle.worksheet.specs.MachineStack.{alikeFrom, InBounds, operandsOf, Holds, Did, leafDone, ranLast};
 use crate::expression::LAST_LEAF;
+use crate::line::CALL_LINE;
+use crate::line::CONVERSION_LINE;
+use crate::line::LEAF_LINE;
+use crate::line::LINE;
+use crate::line::SPARE;
 use functions::rule_at;
 use rules::Rule;
 use rules::RuleAnswer;
 use rules::reaches;
 
 // The stack holds at most so many operands.
-pub const MOST_OPERANDS: usize = 64;
-
-// A line has so many bytes, the first of them its tag.
-pub const LINE: usize = 4;
-// The tag of a leaf's line.
-pub const LEAF_LINE: u8 = 0;
-// The tag of a call's line.
-pub const CALL_LINE: u8 = 1;
-// The tag of a conversion's line.
-pub const CONVERSION_LINE: u8 = 2;
-// What a byte holds that its line has no use for.
-pub const SPARE: u8 = 0;
+const MOST_OPERANDS: usize = 64;
 
 // What stands where no type does.
 const NO_TYPE: u8 = 255;
@@ -246,7 +240,7 @@ fn matches(stack: Stack, rule: Rule) -> bool
     let first = stack.top - count;
     let mut i = 0;
     while i < count {
-        if !is_exactly(stack.types[first + i], argument(rule, i)) {
+        if !is_exactly(stack.types[first + i], rule.argument(i)) {
             return false;
         }
         i += 1;
@@ -259,23 +253,4 @@ fn is_exactly(operand: u8, argument: u8) -> bool
     ensures { λ r. ⌜ r ≡ eqb operand argument ⌝ }
 {
     operand == argument
-}
-
-// A rule's field at an index; 255 past the last.
-fn argument(rule: Rule, i: usize) -> u8
-    ensures { λ r. ⌜ r ≡ getD (fieldsOf rule) i 255 ⌝ }
-{
-    if i == 0 {
-        return rule.a0;
-    }
-    if i == 1 {
-        return rule.a1;
-    }
-    if i == 2 {
-        return rule.a2;
-    }
-    if i == 3 {
-        return rule.a3;
-    }
-    NO_TYPE
 }

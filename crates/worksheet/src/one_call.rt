@@ -2,13 +2,14 @@
 // the call's own line, and the result in place of the operands; or the refusal, with its place in the expression.
 
 ghost use mathlib.Core.Path.{_≡_};
-ghost use lib.ListN.{getD};
 ghost use Rattle.rules.specs.Rule.{argumentsOf};
 ghost use Rattle.worksheet.specs.Line.{encode, conversions};
 ghost use Rattle.worksheet.specs.Sheet.{Wrote};
-ghost use Rattle.worksheet.specs.SecondPass.{fieldsOf, Within, placedAt, ConversionRoom, CallThere, CallTyped};
-use crate::expression::CALL;
+ghost use Rattle.worksheet.specs.SecondPass.{Within, placedAt, ConversionRoom, CallThere, CallTyped};
 use crate::expression::MOST_NODES;
+use crate::line::CALL_LINE;
+use crate::line::CONVERSION_LINE;
+use crate::line::SPARE;
 use crate::progress::Progress;
 use crate::progress::Verdict;
 use crate::sheet::Sheet;
@@ -18,16 +19,13 @@ use overloads::CallAnswer;
 use overloads::call_of;
 use rules::Rule;
 
-// The mark of a conversion's line; a leaf's and a call's are their tags.
-const CONVERSION: u8 = 2;
-
 // The numbers of the two refusals of a single call that say something of its operands.
 const WRONG_COUNT: u8 = 5;
 
 const NO_RULE_LEFT: u8 = 6;
 
 // Types the call at `at`, whose operands are the last `count` on the stack, and whose last byte stands before `past`.
-pub fn type_call(
+pub(crate) fn type_call(
     function: u8,
     count: u8,
     at: usize,
@@ -56,7 +54,7 @@ pub fn type_call(
         CallAnswer::Rule(chosen) => {
             let rule = chosen.rule;
             let converted = convert(operands, rule, sheet);
-            let lined = converted.line(CALL, function, chosen.index, count);
+            let lined = converted.line(CALL_LINE, function, chosen.index, count);
             let pushed = stack.cut(n).push(rule.result, at);
             Progress {
                 verdict: Verdict::Clean,
@@ -94,30 +92,11 @@ fn convert(operands: &[u8], rule: Rule, sheet: Sheet) -> Sheet
     let mut i: usize = 0;
     while i < operands.len() {
         let depth = operands.len() - 1 - i;
-        let wanted = argument(rule, i);
+        let wanted = rule.argument(i);
         if operands[i] != wanted {
-            lines = lines.line(CONVERSION, depth as u8, wanted, 0);
+            lines = lines.line(CONVERSION_LINE, depth as u8, wanted, SPARE);
         }
         i += 1;
     }
     lines
-}
-
-// The type of a rule's argument, from 0 to 3; 0 past these.
-fn argument(rule: Rule, i: usize) -> u8
-    ensures { λ r. ⌜ r ≡ getD (fieldsOf rule) i 0 ⌝ }
-{
-    if i == 0 {
-        return rule.a0;
-    }
-    if i == 1 {
-        return rule.a1;
-    }
-    if i == 2 {
-        return rule.a2;
-    }
-    if i == 3 {
-        return rule.a3;
-    }
-    0
 }

@@ -5,15 +5,15 @@ use crate::stack::Stack;
 use domain::Refusal;
 
 // What the second pass has found.
-pub enum Verdict {
+pub(crate) enum Verdict {
     Clean,
     Wrong(Refusal),
 }
 
 // How far the second pass got: the offset behind what was typed, the operands and the lines.
-pub struct Progress {
-    pub verdict: Verdict,
-    pub at: usize,
-    pub stack: Stack,
-    pub sheet: Sheet,
+pub(crate) struct Progress {
+    pub(crate) verdict: Verdict,
+    pub(crate) at: usize,
+    pub(crate) stack: Stack,
+    pub(crate) sheet: Sheet,
 }

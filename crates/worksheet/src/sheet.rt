@@ -14,14 +14,14 @@ ghost use Rattle.worksheet.specs.Sheet.{Wrote, roomFor, placed};
 const ENOUGH_BYTES: usize = 508;
 
 // The bytes written so far are the first `len`.
-pub struct Sheet {
-    pub bytes: [u8; ENOUGH_BYTES],
-    pub len: usize,
+pub(crate) struct Sheet {
+    pub(crate) bytes: [u8; ENOUGH_BYTES],
+    pub(crate) len: usize,
 }
 
 impl Sheet {
     // With nothing written.
-    pub fn new() -> Self
+    pub(crate) fn new() -> Self
         ensures { λ r. ⌜ r .len ≡ 0 ⌝ }
     {
         Self {
@@ -31,7 +31,7 @@ impl Sheet {
     }
 
     // One byte more.
-    pub fn put(mut self, byte: u8) -> Self
+    fn put(mut self, byte: u8) -> Self
         requires { ⌜ self .len < enoughBytes ⌝ }
         ensures { λ r. ⌜ Wrote self (byte ∷ []) r ⌝ }
     {
@@ -42,7 +42,7 @@ impl Sheet {
     }
 
     // Four bytes more.
-    pub fn line(self, a: u8, b: u8, c: u8, d: u8) -> Self
+    pub(crate) fn line(self, a: u8, b: u8, c: u8, d: u8) -> Self
         requires { ⌜ self .len + 4 ≤ enoughBytes ⌝ }
         ensures { λ r. ⌜ Wrote self (a ∷ b ∷ c ∷ d ∷ []) r ⌝ }
     {
@@ -51,14 +51,14 @@ impl Sheet {
 }
 
 // Whether a run of bytes fits a lent buffer.
-pub enum Room {
+pub(crate) enum Room {
     Fits,
     // It does not, and needs so many bytes.
     Short(usize),
 }
 
 // Puts the first `len` bytes in front of the lent buffer, if they fit; otherwise the buffer keeps its contents.
-pub fn copy_out(bytes: [u8; ENOUGH_BYTES], len: usize, out: &mut [u8]) -> Room
+pub(crate) fn copy_out(bytes: [u8; ENOUGH_BYTES], len: usize, out: &mut [u8]) -> Room
     requires { ⌜ len ≤ enoughBytes ⌝ }
     ensures answer { λ r. ⌜ r ≡ roomFor len (length (now (out .entry))) ⌝ }
     ensures buffer { λ _. ⌜ now (out .exit) ≡ placed (take len bytes) (now (out .entry)) ⌝ }

@@ -9,15 +9,15 @@ ghost use Rattle.worksheet.specs.Stack.{Pushed, Cut};
 use crate::expression::MOST_NODES;
 
 // The operands are the first `top`, the last of them on top.
-pub struct Stack {
-    pub types: [u8; MOST_NODES],
-    pub starts: [usize; MOST_NODES],
-    pub top: usize,
+pub(crate) struct Stack {
+    pub(crate) types: [u8; MOST_NODES],
+    pub(crate) starts: [usize; MOST_NODES],
+    pub(crate) top: usize,
 }
 
 impl Stack {
     // With no operand.
-    pub fn new() -> Self
+    pub(crate) fn new() -> Self
         ensures { λ r. ⌜ r .top ≡ 0 ⌝ }
     {
         Self {
@@ -28,7 +28,7 @@ impl Stack {
     }
 
     // One operand more, of this type, whose first byte is at `start`.
-    pub fn push(mut self, code: u8, start: usize) -> Self
+    pub(crate) fn push(mut self, code: u8, start: usize) -> Self
         requires { ⌜ self .top < mostOperands ⌝ }
         ensures { λ r. ⌜ Pushed self (code ∷ []) (start ∷ []) r ⌝ }
     {
@@ -40,7 +40,7 @@ impl Stack {
     }
 
     // Without the `count` operands on top.
-    pub fn cut(mut self, count: usize) -> Self
+    pub(crate) fn cut(mut self, count: usize) -> Self
         requires { ⌜ count ≤ self .top ⌝ }
         ensures { λ r. ⌜ Cut self count r ⌝ }
     {

@@ -13,6 +13,8 @@ ghost use Rattle.worksheet.specs.Typing.{typing, answerOf};
 use crate::expression::LEAF;
 use crate::expression::Read;
 use crate::expression::read_expression;
+use crate::line::LEAF_LINE;
+use crate::line::SPARE;
 use crate::one_call::type_call;
 use crate::progress::Progress;
 use crate::progress::Verdict;
@@ -79,7 +81,7 @@ fn type_node(bytes: &[u8], at: usize, switch: bool, stack: Stack, sheet: Sheet) 
     let code = bytes[at + 1];
     if tag == LEAF {
         let pushed = stack.push(code, at);
-        let lined = sheet.line(LEAF, code, 0, 0);
+        let lined = sheet.line(LEAF_LINE, code, SPARE, SPARE);
         return Progress {
             verdict: Verdict::Clean,
             at: at + 2,

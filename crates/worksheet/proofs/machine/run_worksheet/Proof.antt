@@ -8,8 +8,9 @@ use lib.ListN.{length, drop}
 use borrow.Author.Tests.{not-true, not-false}
 use Rattle.functions.specs.Functions.{listingOf}
 use Rattle.worksheet.specs.Machine.{runBytesBy}
-use Rattle.worksheet.specs.TopLast.{stepLast, runBytesLast}
+use Rattle.worksheet.specs.TopLast.{stepLast}
 use Rattle.worksheet.specs.MachineStack.{operandsOf, InBounds}
+use Rattle.worksheet.proofs.TopLast.{runBytesLast}
 use Rattle.worksheet.proofs.Outcomes.{run-starts, run-ended, run-partial, run-stopped, run-next}
 use borrow.Author.Needs.{needs}
 use Rattle.worksheet.proofs.machine.run_worksheet.Statement.{statement}

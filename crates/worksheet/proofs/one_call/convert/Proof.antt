@@ -8,7 +8,8 @@ use borrow.Author.Needs.{needs}
 use lib.ListN.{length}
 use Rattle.worksheet.specs.declared.sheet.Sheet.{Sheet}
 use Rattle.worksheet.specs.Answer.{enoughBytes}
-use Rattle.worksheet.proofs.Conversions.{Leaves, few-arguments, leave-same, leave-line, leave-none}
+use Rattle.rules.proofs.Records.{arguments-few}
+use Rattle.worksheet.proofs.Conversions.{Leaves, leave-same, leave-line, leave-none}
 use Rattle.worksheet.proofs.one_call.convert.Statement.{statement}
 use Rattle.worksheet.proofs.one_call.convert.Tie as tie
 
@@ -39,7 +40,7 @@ cast-line c =
     omega (
       arith,
       c .before .before .before .before .before .before .pre .taken,
-      few-arguments
+      arguments-few
           (c .before .before .before .before .before .before .args .rule),
     )
 
