@@ -7,7 +7,7 @@ use crate::list::List;
 use crate::list::ListAnswer;
 use crate::list::MOST_RULES;
 use crate::list::accepted;
-use crate::list::full_mask;
+use crate::list::len_to_full_mask;
 use crate::list::refused;
 use domain::CountAnswer;
 use domain::Refusal;
@@ -34,7 +34,7 @@ pub fn expand(set: Regular) -> ListAnswer
         CountAnswer::Count(_) => accepted(List {
             rules: front(rules),
             len: n,
-            members: full_mask(n),
+            members: len_to_full_mask(n),
         }),
     }
 }

@@ -4,7 +4,7 @@ ghost use mathlib.Core.Path.{_≡_};
 ghost use Rattle.overloads.specs.Expansion.{listOf};
 ghost use Rattle.functions.specs.Functions.{listedRules};
 use crate::list::List;
-use crate::list::full_mask;
+use crate::list::len_to_full_mask;
 use functions::Listed;
 use functions::listed_rule;
 use functions::rule_count;
@@ -25,6 +25,6 @@ pub fn list_of(listed: Listed) -> List
     List {
         rules: rules,
         len: len,
-        members: full_mask(len),
+        members: len_to_full_mask(len),
     }
 }

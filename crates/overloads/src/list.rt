@@ -68,7 +68,7 @@ impl List {
         List {
             rules: rules,
             len: n,
-            members: full_mask(n),
+            members: len_to_full_mask(n),
         }.checked()
     }
 
@@ -241,7 +241,7 @@ fn held(n: usize) -> usize
 }
 
 // The mask of n members; of more rules than a List holds, none.
-pub(crate) fn full_mask(n: usize) -> u64
+pub(crate) fn len_to_full_mask(n: usize) -> u64
     ensures { λ r. ⌜ r ≡ choose (leb n mostRules) (2 ^ n - 1) 0 ⌝ }
 {
     if MOST_RULES < n {

@@ -4,7 +4,7 @@
 use mathlib.Core.Path.{_≡_, refl, sym, ap, subst, _∙_}
 use mathlib.Core.Bool.{Bool, true, false}
 use mathlib.Core.List.{List, [], _++_, append-nil}
-use Prim.Native.Nat.{ℕ, _+_, _≤_}
+use Prim.Native.Nat.{ℕ, _+_}
 use native.Mathlib.Omega.{arith}
 use borrow.Author.Tests.{le-ltb, ltb-false}
 use lib.ListN.{length, drop-of-length-le}
@@ -12,7 +12,6 @@ use Rattle.domain.specs.Mask.{choose}
 use Rattle.domain.specs.declared.refusal.Refusal.the-variants.{IllFormed}
 use Rattle.worksheet.specs.Tree.{Tree, bytesOf, deepest, WellFormed}
 use Rattle.worksheet.specs.Reading.{Reading, done, refused, Expression, read, refusedAs, present, nodeAt, whole, expressionOf}
-use Rattle.worksheet.proofs.Bytes.{mostBytes, formed-length}
 use Rattle.worksheet.proofs.Sound.{Found, Sound, node-sound}
 use Rattle.worksheet.proofs.Complete.{node-complete}
 
@@ -38,11 +37,6 @@ module _ (functions : ℕ) (s : List ℕ) where
   unfolding expressionOf
   accepts-only e h =
       subst (Right functions s) h (whole-right (nodeAt functions s deepest 0 0) (node-sound functions s deepest 0 0))
-
-  pub accepted-length : (e : Tree) → expressionOf functions s ≡ read e → length s ≤ mostBytes
-  accepted-length e h =
-      let (text, formed) = accepts-only e h in
-      omega (arith, ap length text, formed-length functions e formed)
 
 bytes-accepted : (functions : ℕ) (e : Tree) → WellFormed functions e → expressionOf functions (bytesOf e) ≡ read e
 unfolding expressionOf

@@ -9,7 +9,7 @@ use native.Mathlib.Omega.{arith}
 use native.Mathlib.Decide.{decLt}
 use lib.ListN.{length, getD, drop, length-append, drop-of-length-le}
 use lib.Seq.{drop-cons, drop-drop, drop-append-seam}
-use Rattle.worksheet.specs.Tree.{Leaf, Tree, Trees, leaf, call, none, more, count, leafTag, callTag, bytesOf, bytesOfAll, nodes, nodesAll, mostNodes, WellFormed}
+use Rattle.worksheet.specs.Tree.{Leaf, Tree, Trees, leaf, call, none, more, count, leafTag, callTag, bytesOf, bytesOfAll, nodes, nodesAll, mostNodes}
 
 -- a byte that is present stands in front of the bytes behind it
 pub head-at : (s : List ℕ) (at next : ℕ) → at < length s → next ≡ at + 1 → drop at s ≡ getD s at 0 ∷ drop next s
@@ -83,6 +83,3 @@ mutual
 -- three bytes for each of 64 nodes
 abbrev pub mostBytes : ℕ
 mostBytes = 3 * mostNodes
-
-pub formed-length : (functions : ℕ) (e : Tree) → WellFormed functions e → length (bytesOf e) ≤ mostBytes
-formed-length functions e formed = omega (arith, bytes-most e, formed .few)

@@ -15,7 +15,6 @@ pub mod LineBytes
 pub mod Walk
 pub mod TopLast
 pub mod Operands
-pub mod Fits
 pub mod Demand3
 pub mod Written
 pub mod Conversions

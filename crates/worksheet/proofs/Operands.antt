@@ -4,15 +4,11 @@
 use mathlib.Core.Path.{_≡_, sym, _∙_}
 use mathlib.Core.Bool.{Bool, true, false, true≢false}
 use mathlib.Core.List.{List}
-use Prim.Native.Nat.{ℕ, _≤_, _<_, _/_}
-use native.Mathlib.Omega.{arith}
-use lib.Dec.{eqb}
+use Prim.Native.Nat.{ℕ, _≤_, _<_}
 use lib.ListN.{length, getD}
-use borrow.Author.Tests.{ltb-true, le-ltb, eqb-true}
-use Rattle.domain.specs.Domain.{value?, constructorPart}
-use Rattle.rules.specs.Signature.{Signature, sameShape, sameNumber, reaches}
+use borrow.Author.Tests.{le-ltb}
+use Rattle.rules.specs.Signature.{Signature, reaches}
 use Rattle.overloads.specs.Taking.{NoRule}
-use Rattle.domain.proofs.Filters.{both-left, both-right}
 
 pub reaches-nothing : (t a : ℕ) → 156 ≤ t → reaches t a ≡ false
 unfolding reaches
@@ -23,11 +19,3 @@ pub matches-no-rule : (switch : Bool) (rules : List Signature) (ts : List ℕ) (
 unfolding NoRule
 matches-no-rule switch rules ts k lt h i r e t =
     true≢false (sym (t .reached k lt) ∙ reaches-nothing (getD ts k 0) (getD (r .arguments) k 0) h)
-
-pub reached-value : (t a : ℕ) → reaches t a ≡ true → a < 156
-unfolding reaches
-reached-value t a e =
-    let s = both-left (sameShape t a) (sameNumber t a) e in
-    let v : t < 156 = ltb-true t 156 (both-left (value? t) (eqb (constructorPart t) (constructorPart a)) s) in
-    let c : t / 12 ≡ a / 12 = eqb-true (t / 12) (a / 12) (both-right (value? t) (eqb (constructorPart t) (constructorPart a)) s) in
-    omega arith

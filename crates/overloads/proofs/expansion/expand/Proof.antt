@@ -68,8 +68,8 @@ enum-told-2 c = search needs
 front-requires : tie.Need-front-requires
 front-requires c κs = search needs
 
-full-mask-requires : tie.Need-full-mask-requires
-full-mask-requires c κs = search needs
+len-to-full-mask-requires : tie.Need-len-to-full-mask-requires
+len-to-full-mask-requires c κs = search needs
 
 accepted-requires : tie.Need-accepted-requires
 accepted-requires c κs = search needs
@@ -78,7 +78,7 @@ returns-3 : tie.Need-returns-3
 returns-3 c = c .refused3 .ensures ∙ expand-refused (c .before .before .before .before .before .before .before .before .before .before .before .before .args .set) (ok (c .before .before .before .before .before .before .before .before .before)) (many (c .before .before .before .before .before .before .before .before .before)) (c .before .before .before .before .before .before .if1 .left) _ (c .before .before .before .before .before .overload-list .ensures) _ (c .before .before .answer .given .1)
 
 returns-4 : tie.Need-returns-4
-returns-4 c = c .accepted .ensures ∙ expand-list (c .before .before .before .before .before .before .before .before .before .before .before .before .before .args .set) (ok (c .before .before .before .before .before .before .before .before .before .before)) (many (c .before .before .before .before .before .before .before .before .before .before)) (c .before .before .before .before .before .before .before .if1 .left) _ (c .before .before .before .before .before .before .overload-list .ensures) _ (c .before .before .before .enum-told2 .given .1) _ _ (c .before .before .front .ensures) (c .before .full-mask .ensures)
+returns-4 c = c .accepted .ensures ∙ expand-list (c .before .before .before .before .before .before .before .before .before .before .before .before .before .args .set) (ok (c .before .before .before .before .before .before .before .before .before .before)) (many (c .before .before .before .before .before .before .before .before .before .before)) (c .before .before .before .before .before .before .before .if1 .left) _ (c .before .before .before .before .before .before .overload-list .ensures) _ (c .before .before .before .enum-told2 .given .1) _ _ (c .before .before .front .ensures) (c .before .len-to-full-mask .ensures)
 
 pub expand-spec : {M : Type 1} → statement M
 expand-spec =
@@ -98,7 +98,7 @@ expand-spec =
     refused-requires-3
     enum-told-2
     front-requires
-    full-mask-requires
+    len-to-full-mask-requires
     accepted-requires
     returns-3
     returns-4)

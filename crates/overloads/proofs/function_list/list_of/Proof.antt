@@ -62,11 +62,11 @@ loop-again c = (
 cast-len : tie.Need-cast-len Inv-loop μ-loop
 cast-len c = omega (arith, fits (c .before .before))
 
-full-mask-requires : tie.Need-full-mask-requires Inv-loop μ-loop
-full-mask-requires c κs = tt
+len-to-full-mask-requires : tie.Need-len-to-full-mask-requires Inv-loop μ-loop
+len-to-full-mask-requires c κs = tt
 
 returns : tie.Need-returns Inv-loop μ-loop
-returns c = list-built (listedRules (c .before .before .before .before .args .listed)) (fill-end _ _ (past-at blankRule (map ruleOf (listedRules (c .before .before .before .before .args .listed))) (c .before .before .loop .k) (omega (arith, records-length (c .before .before .before), c .before .before .before .rule-count .ensures))) (c .before .before .loop .inv .2)) (c .before .before .before .rule-count .ensures) (c .full-mask .ensures) (few-listed _)
+returns c = list-built (listedRules (c .before .before .before .before .args .listed)) (fill-end _ _ (past-at blankRule (map ruleOf (listedRules (c .before .before .before .before .args .listed))) (c .before .before .loop .k) (omega (arith, records-length (c .before .before .before), c .before .before .before .rule-count .ensures))) (c .before .before .loop .inv .2)) (c .before .before .before .rule-count .ensures) (c .len-to-full-mask .ensures) (few-listed _)
 
 pub list-of-spec : {M : Type 1} → statement M
 list-of-spec =
@@ -84,5 +84,5 @@ list-of-spec =
     loop-less
     loop-again
     cast-len
-    full-mask-requires
+    len-to-full-mask-requires
     returns)

@@ -6,8 +6,8 @@ use Rattle.overloads.specs.List.{fromRules, checkedList}
 use Rattle.overloads.proofs.list.List.from_rules.Statement.{statement}
 use Rattle.overloads.proofs.list.List.from_rules.Tie as tie
 
-full-mask-requires : tie.Need-full-mask-requires
-full-mask-requires c κs = search needs
+len-to-full-mask-requires : tie.Need-len-to-full-mask-requires
+len-to-full-mask-requires c κs = search needs
 
 checked-requires : tie.Need-checked-requires
 checked-requires c κs = search needs
@@ -16,7 +16,7 @@ returns : tie.Need-returns
 unfolding fromRules
 returns c =
     c .checked .ensures
-    ∙ ap (λ (m : ℕ). checkedList (record { rules = c .before .before .args .rules; len = c .before .before .args .n; members = m })) (c .before .full-mask .ensures)
+    ∙ ap (λ (m : ℕ). checkedList (record { rules = c .before .before .args .rules; len = c .before .before .args .n; members = m })) (c .before .len-to-full-mask .ensures)
 
 pub from-rules-spec : {M : Type 1} → statement M
-from-rules-spec = tie.close (tie.spec full-mask-requires checked-requires returns)
+from-rules-spec = tie.close (tie.spec len-to-full-mask-requires checked-requires returns)
