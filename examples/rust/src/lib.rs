@@ -1,5 +1,5 @@
-//! Azwukran from Rust: a safe function over each C function of libbindings.a, with answers as Rust types. Numbers of
-//! scalars, types and functions are those that include/azwukran.h lists.
+//! Azwukran from Rust: a safe function over each C function of libbindings.a but those for sets made by hand, with answers
+//! as Rust types. Numbers of scalars, types and functions are those that include/azwukran.h lists.
 
 use std::fmt;
 
