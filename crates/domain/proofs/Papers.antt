@@ -13,7 +13,7 @@ use Rattle.domain.specs.Domain.{value?, known?, scalarPart}
 use Rattle.domain.specs.TypeCode.{leafScalar}
 use Rattle.domain.specs.Conversion.{none, combination, combinedTo, combineOf}
 use Rattle.domain.specs.Refusal.{numberOf, placeOf}
-use Rattle.domain.specs.Paper.{Paper, verdictPaper, testPaper, countPaper, scalarPaper, constructorPaper, codePaper, leafPaper, combinationPaper, sizePaper, partsPaper}
+use Rattle.domain.specs.Paper.{Paper, verdictPaper, testPaper, countPaper, scalarPaper, constructorPaper, codePaper, leafPaper, combinationPaper, sizePaper, partsPaper, walkPaper}
 use Rattle.domain.specs.declared.refusal.Refusal.{Refusal}
 use Rattle.domain.specs.declared.refusal.Refusal.the-variants.{EmptySet, SeveralConstructors, TooMany, NoSuchArgument, WrongCount, NoRuleLeft, Unknown, IllFormed, TooLarge, NoRoom, NothingToCombine, NoConsensus, NoConclusion}
 use Rattle.domain.specs.declared.answer.Verdict.{Verdict}
@@ -36,6 +36,8 @@ use Rattle.domain.specs.declared.type_code.CodeAnswer.{CodeAnswer}
 use Rattle.domain.specs.declared.type_code.CodeAnswer.the-variants as code
 use Rattle.domain.specs.declared.type_code.LeafScalar.{LeafScalar}
 use Rattle.domain.specs.declared.type_code.LeafScalar.the-variants as leaf
+use Rattle.domain.specs.declared.one_bits_iter.BitStep.{BitStep}
+use Rattle.domain.specs.declared.one_bits_iter.BitStep.the-variants as walk
 use Rattle.domain.specs.declared.conversion.Combination.{Combination}
 use Rattle.domain.specs.declared.conversion.Combination.the-variants as combined
 use Rattle.domain.proofs.Combinations.{combination-known}
@@ -202,6 +204,17 @@ parts-back (parts.Refused why) = reads-refused partsIn parts.Refused why (255 �
 
 pub parts-one : (a b : PartsAnswer) → partsPaper a ≡ partsPaper b → a ≡ b
 parts-one = one-to-one partsPaper (read partsIn parts.Refused) parts-back
+
+abbrev walkIn : List ℕ → BitStep
+walkIn [] = walk.Done
+walkIn (m ∷ vs) = walk.Bit (record { 0 = m }) (record { 0 = getD vs 0 0 })
+
+walk-back : (a : BitStep) → walkIn (walkPaper a .values) ≡ a
+walk-back (walk.Bit bit rest) = refl
+walk-back walk.Done = refl
+
+pub walk-one : (a b : BitStep) → walkPaper a ≡ walkPaper b → a ≡ b
+walk-one = one-to-one walkPaper (λ p. walkIn (p .values)) walk-back
 
 -- ---- a scalar or none: of the answers that the promises permit, whose scalars are known
 

@@ -26,6 +26,8 @@ use Rattle.domain.specs.declared.type_code.CodeAnswer.{CodeAnswer}
 use Rattle.domain.specs.declared.type_code.CodeAnswer.the-variants as code
 use Rattle.domain.specs.declared.type_code.LeafScalar.{LeafScalar}
 use Rattle.domain.specs.declared.type_code.LeafScalar.the-variants as leaf
+use Rattle.domain.specs.declared.one_bits_iter.BitStep.{BitStep}
+use Rattle.domain.specs.declared.one_bits_iter.BitStep.the-variants as walk
 use Rattle.domain.specs.declared.conversion.Combination.{Combination}
 use Rattle.domain.specs.declared.conversion.Combination.the-variants as combined
 
@@ -99,3 +101,9 @@ partsValues (Frexp k s) = 3 ∷ k .0 ∷ s .0 ∷ []
 abbrev pub partsPaper : PartsAnswer → Paper
 partsPaper (parts.Parts p) = accepted (partsValues p)
 partsPaper (parts.Refused why) = refused why (255 ∷ 255 ∷ 255 ∷ [])
+
+-- ---- a step of a walk: the bit's mask and the bits after it, or nothing
+
+abbrev pub walkPaper : BitStep → Paper
+walkPaper (walk.Bit bit rest) = accepted (bit .0 ∷ rest .0 ∷ [])
+walkPaper walk.Done = accepted []

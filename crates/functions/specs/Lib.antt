@@ -1,2 +1,4 @@
+-- What a reader must believe of this crate.
 pub mod Sequences
 pub mod Functions
+pub mod FunctionPaper

@@ -1,3 +1,4 @@
+-- Laws of Lists, sets and calls that several proofs use; the theorems of Agreement and Demand 2 among them.
 pub mod Entries
 pub mod Lists
 pub mod Steps

@@ -1,3 +1,4 @@
+-- What a reader must believe of this crate.
 pub mod Choice
 pub mod List
 pub mod Expansion

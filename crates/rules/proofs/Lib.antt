@@ -1,3 +1,4 @@
+-- Laws of rules and Regular sets that several proofs use.
 pub mod Rules
 pub mod Regulars
 pub mod Puts

@@ -24,7 +24,7 @@ pub rule-one : (a b : RuleAnswer) → rulePaper a ≡ rulePaper b → a ≡ b
 rule-one = one-to-one rulePaper (read (λ vs. rule.Rule (record { a0 = getD vs 0 0; a1 = getD vs 1 0; a2 = getD vs 2 0; a3 = getD vs 3 0; count = getD vs 4 0; result = getD vs 5 0 })) rule.Refused) rule-back
 
 -- the conclusion of a number
-conclusionOf : ℕ → ConclusionRule
+pub conclusionOf : ℕ → ConclusionRule
 conclusionOf n =
     choose (eqb n 0) conclusion.ArgumentType
     (choose (eqb n 1) conclusion.Scalar
@@ -37,7 +37,7 @@ conclusionOf n =
     (choose (eqb n 8) conclusion.Vec4I
     conclusion.Vec4U))))))))
 
-conclusion-back : (c : ConclusionRule) → conclusionOf (conclusionNumber c) ≡ c
+pub conclusion-back : (c : ConclusionRule) → conclusionOf (conclusionNumber c) ≡ c
 unfolding conclusionOf
 conclusion-back conclusion.ArgumentType = refl
 conclusion-back conclusion.Scalar = refl

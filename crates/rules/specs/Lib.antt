@@ -1,3 +1,4 @@
+-- What a reader must believe of this crate.
 pub mod Signature
 pub mod Rule
 pub mod Verdict

@@ -1,6 +1,9 @@
 -- What the functions of src/expression.rt answer. They build no tree: each answers what the definition of the first pass reads,
 -- with the tree left out.
+use mathlib.Core.List.{[], _∷_}
 use Prim.Native.Nat.{ℕ, suc, _-_}
+use Rattle.domain.specs.Paper as paper
+use Rattle.domain.specs.Paper.{Paper}
 use Rattle.worksheet.specs.declared.expression.Step.{Step}
 use Rattle.worksheet.specs.declared.expression.Step.the-variants.{Past, Fault}
 use Rattle.worksheet.specs.declared.expression.Read.{Read}
@@ -26,3 +29,8 @@ levelsLeft depth = suc deepest - depth
 abbrev pub readOf : Expression → Read
 readOf (read e) = Accepted (nodes e)
 readOf (refusedAs fault) = Refused fault
+
+-- the paper's number, place and value: how many nodes there are, 255 where the expression is refused
+abbrev pub readPaper : Read → Paper
+readPaper (Accepted n) = paper.accepted (n ∷ [])
+readPaper (Refused why) = paper.refused why (255 ∷ [])

@@ -1,0 +1,64 @@
+-- The paper's numbers determine the set of a function: two answers with the same number, place and values are equal. Shown by reading
+-- the answer back. Assumes nothing.
+use mathlib.Core.Path.{_≡_, refl, ap}
+use mathlib.Core.List as L
+use mathlib.Core.List.{[], _∷_}
+use Prim.Native.Nat.{ℕ}
+use lib.Dec.{eqb}
+use lib.ListN.{getD}
+use Rattle.domain.specs.Mask.{choose}
+use Rattle.domain.specs.declared.refusal.Refusal.{Refusal}
+use Rattle.domain.specs.declared.refusal.Refusal.the-variants as refusal
+use Rattle.domain.proofs.Papers.{read, reads-refused, one-to-one}
+use Rattle.rules.specs.declared.regular.ConclusionRule.{ConclusionRule}
+use Rattle.rules.proofs.SetPapers.{conclusionOf, conclusion-back}
+use Rattle.functions.specs.declared.mathfunction.FunctionSet.{FunctionSet}
+use Rattle.functions.specs.declared.mathfunction.FunctionSet.the-variants.{Regular, List, Unknown}
+use Rattle.functions.specs.declared.mathfunction.Listed.{Listed}
+use Rattle.functions.specs.declared.mathfunction.Listed.the-variants.{Ldexp, Outer, Refract, Mix, Transpose, ExtractBits, InsertBits}
+use Rattle.functions.specs.FunctionPaper.{listedNumber, functionPaper}
+
+abbrev listedOf : ℕ → Listed
+listedOf n =
+    choose (eqb n 0) Ldexp
+    (choose (eqb n 1) Outer
+    (choose (eqb n 2) Refract
+    (choose (eqb n 3) Mix
+    (choose (eqb n 4) Transpose
+    (choose (eqb n 5) ExtractBits
+    InsertBits)))))
+
+listed-back : (l : Listed) → listedOf (listedNumber l) ≡ l
+listed-back Ldexp = refl
+listed-back Outer = refl
+listed-back Refract = refl
+listed-back Mix = refl
+listed-back Transpose = refl
+listed-back ExtractBits = refl
+listed-back InsertBits = refl
+
+abbrev regularIn : ℕ → ℕ → ℕ → ConclusionRule → FunctionSet
+regularIn arity constructors scalars conclude = Regular (record {
+  arity = arity;
+  constructors = record { 0 = constructors };
+  scalars = record { 0 = scalars };
+  conclude = conclude;
+})
+
+abbrev setIn : L.List ℕ → FunctionSet
+setIn vs =
+    choose (eqb (getD vs 0 0) 0) (regularIn (getD vs 1 0) (getD vs 2 0) (getD vs 3 0) (conclusionOf (getD vs 4 0)))
+    (List (listedOf (getD vs 1 0)))
+
+abbrev unknown : Refusal → FunctionSet
+unknown why = Unknown
+
+function-back : (a : FunctionSet) → read setIn unknown (functionPaper a) ≡ a
+unfolding read
+function-back (Regular r) =
+    ap (λ (k : ConclusionRule). regularIn (r .arity) (r .constructors .0) (r .scalars .0) k) (conclusion-back (r .conclude))
+function-back (List l) = ap List (listed-back l)
+function-back Unknown = reads-refused setIn unknown (refusal.Unknown 0) (255 ∷ 255 ∷ 255 ∷ 255 ∷ 255 ∷ [])
+
+pub function-one : (a b : FunctionSet) → functionPaper a ≡ functionPaper b → a ≡ b
+function-one = one-to-one functionPaper (read setIn unknown) function-back

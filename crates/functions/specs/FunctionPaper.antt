@@ -1,0 +1,26 @@
+-- The paper's number, place and values for the set of a function: 0 and a Regular set's parts, or 1 and which of the Lists it is. An
+-- unknown function is refusal 7 at 0.
+use mathlib.Core.List.{[], _∷_}
+use Prim.Native.Nat.{ℕ}
+use Rattle.domain.specs.Paper.{Paper, accepted, refused}
+use Rattle.domain.specs.declared.refusal.Refusal.the-variants as refusal
+use Rattle.rules.specs.SetPaper.{regularValues}
+use Rattle.functions.specs.declared.mathfunction.FunctionSet.{FunctionSet}
+use Rattle.functions.specs.declared.mathfunction.FunctionSet.the-variants.{Regular, List, Unknown}
+use Rattle.functions.specs.declared.mathfunction.Listed.{Listed}
+use Rattle.functions.specs.declared.mathfunction.Listed.the-variants.{Ldexp, Outer, Refract, Mix, Transpose, ExtractBits, InsertBits}
+
+-- the functions that have a List, in the order of their numbers
+abbrev pub listedNumber : Listed → ℕ
+listedNumber Ldexp = 0
+listedNumber Outer = 1
+listedNumber Refract = 2
+listedNumber Mix = 3
+listedNumber Transpose = 4
+listedNumber ExtractBits = 5
+listedNumber InsertBits = 6
+
+abbrev pub functionPaper : FunctionSet → Paper
+functionPaper (Regular r) = accepted (0 ∷ regularValues r)
+functionPaper (List l) = accepted (1 ∷ listedNumber l ∷ 255 ∷ 255 ∷ 255 ∷ [])
+functionPaper Unknown = refused (refusal.Unknown 0) (255 ∷ 255 ∷ 255 ∷ 255 ∷ 255 ∷ [])
