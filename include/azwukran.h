@@ -144,7 +144,8 @@ uint64_t azwukran_regular_preferred(uint8_t arity, uint16_t constructors, uint16
 uint64_t azwukran_regular_rule(uint8_t arity, uint16_t constructors, uint16_t scalars, uint8_t conclusion, uint8_t index);
 
 /* The members that an argument of this type (0 to 180; another is refused by 7) at this index leaves, as a mask. A refusal
- * has bit 63 set, which no mask has, and its number in bits 0..7; its place is 0, and for 8 the offset of the rule. */
+ * has bit 63 set, which no mask has, and its number in bits 0..7. Its place is not told: it is 0, but for 8, where it is
+ * the offset of the rule cut short. */
 uint64_t azwukran_list_arg(const uint8_t *rules, size_t n, uint64_t members, size_t index, uint8_t type);
 
 /* The members without an argument of ABSTRACT_INT or ABSTRACT_FLOAT, in the same form. */
