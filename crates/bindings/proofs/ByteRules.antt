@@ -6,9 +6,9 @@ use Prim.Native.Nat.{ℕ, _+_, _-_, _≤_, _<_}
 use native.Mathlib.Omega.{arith}
 use lib.ListN.{length, drop, replicate, length-map}
 use lib.Seq.{sets}
-use Rattle.domain.specs.Mask.{upTo}
-use Rattle.domain.proofs.Bits.{upTo-length}
-use Rattle.domain.proofs.Fills.{filled}
+use Rattle.scalars.specs.Mask.{upTo}
+use Rattle.scalars.proofs.Bits.{upTo-length}
+use Rattle.scalars.proofs.Fills.{filled}
 use Rattle.rules.specs.Rule.{blankRule}
 use Rattle.rules.specs.declared.rule.Rule.{Rule}
 use Rattle.functions.proofs.Runs.{numbered, next-at, past-at}

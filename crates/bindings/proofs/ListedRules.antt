@@ -8,24 +8,24 @@ use native.Mathlib.Nat.{le-of-suc-le-suc, not-suc-le-zero}
 use native.Mathlib.Omega.{arith}
 use lib.ListN.{length, getD}
 use borrow.Author.Tests.{lt-ltb, le-ltb}
-use Rattle.domain.specs.Mask.{choose}
-use Rattle.domain.specs.declared.answer.CountAnswer.{CountAnswer}
-use Rattle.domain.specs.declared.answer.CountAnswer.the-variants as count
-use Rattle.domain.specs.declared.answer.Verdict.{Verdict}
-use Rattle.domain.specs.declared.answer.Verdict.the-variants as verdict
-use Rattle.domain.specs.declared.refusal.Refusal.{Refusal}
-use Rattle.domain.specs.declared.refusal.Refusal.the-variants.{Unknown, NoConclusion}
+use Rattle.scalars.specs.Mask.{choose}
+use Rattle.scalars.specs.declared.answer.CountAnswer.{CountAnswer}
+use Rattle.scalars.specs.declared.answer.CountAnswer.the-variants as count
+use Rattle.scalars.specs.declared.answer.Verdict.{Verdict}
+use Rattle.scalars.specs.declared.answer.Verdict.the-variants as verdict
+use Rattle.scalars.specs.declared.refusal.Refusal.{Refusal}
+use Rattle.scalars.specs.declared.refusal.Refusal.the-variants.{Unknown, NoConclusion}
 use Rattle.rules.specs.Signature.{Signature}
 use Rattle.rules.specs.Rule.{blankRule}
 use Rattle.rules.specs.Verdict.{onVerdict}
 use Rattle.rules.specs.Listing.{acceptedListing, refusedListing}
-use Rattle.rules.specs.Regular.{regularVerdict, regularRules, allConclude, listedRules, regularListing}
+use Rattle.regular.specs.Regular.{regularVerdict, regularRules, allConclude, listedRules, regularListing}
 use Rattle.rules.specs.declared.listing.Listing.{Listing}
-use Rattle.rules.specs.declared.regular.Regular.{Regular}
+use Rattle.regular.specs.declared.regular.Regular.{Regular}
 use Rattle.rules.specs.declared.rule.Rule.{Rule}
 use Rattle.rules.specs.declared.rule.RuleAnswer.{RuleAnswer}
 use Rattle.rules.specs.declared.rule.RuleAnswer.the-variants as rule
-use Rattle.rules.proofs.Listings.{codes-few, rules-count}
+use Rattle.regular.proofs.Listings.{codes-few, rules-count}
 use Rattle.bindings.specs.Sets.{within, listedAt}
 
 -- a listing has at most 156 rules

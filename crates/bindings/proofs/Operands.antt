@@ -9,13 +9,13 @@ use native.Mathlib.Omega.{arith}
 use lib.Dec.{leb, ltb, eqb}
 use lib.ListN.{length, getD, set, take, drop, length-set, getElem?}
 use borrow.Author.Tests.{ltb-true}
-use Rattle.domain.specs.Mask.{both}
+use Rattle.scalars.specs.Mask.{both}
 use Rattle.rules.specs.Signature.{Signature}
-use Rattle.worksheet.specs.declared.machine.Run.the-variants.{Ended}
-use Rattle.worksheet.specs.Tree.{lastLeaf}
-use Rattle.worksheet.specs.Line.{Line, leafLine, conversionLine, callLine, onlyIf, lineOf}
-use Rattle.worksheet.specs.Machine.{Outcome, ended, stopped, mostOperands, push, convertible, convertAt, same, apply, next, stepIf, runBytesBy, step, runBytes}
-use Rattle.worksheet.specs.Run.{ranOf}
+use Rattle.machine.specs.declared.machine.Run.the-variants.{Ended}
+use Rattle.expressions.specs.Tree.{lastLeaf}
+use Rattle.machine.specs.Line.{Line, leafLine, conversionLine, callLine, onlyIf, lineOf}
+use Rattle.machine.specs.Machine.{Outcome, ended, stopped, mostOperands, push, convertible, convertAt, same, apply, next, stepIf, runBytesBy, step, runBytes}
+use Rattle.machine.specs.Run.{ranOf}
 
 -- what a line leaves, where it does not stop
 abbrev Few : Option (List ℕ) → Type 0

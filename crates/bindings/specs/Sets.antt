@@ -4,11 +4,11 @@ use mathlib.Core.List.{[], _∷_, map}
 use Prim.Native.Nat.{ℕ, _+_, _*_, _/_, _%_}
 use lib.Dec.{eqb, leb, ltb}
 use lib.ListN.{length, getD}
-use Rattle.domain.specs.Mask.{choose, upTo}
-use Rattle.domain.specs.declared.refusal.Refusal.{Refusal}
-use Rattle.domain.specs.declared.refusal.Refusal.the-variants.{Unknown, IllFormed}
-use Rattle.domain.specs.declared.answer.CountAnswer.{CountAnswer}
-use Rattle.domain.specs.declared.answer.CountAnswer.the-variants as count
+use Rattle.scalars.specs.Mask.{choose, upTo}
+use Rattle.scalars.specs.declared.refusal.Refusal.{Refusal}
+use Rattle.scalars.specs.declared.refusal.Refusal.the-variants.{Unknown, IllFormed}
+use Rattle.scalars.specs.declared.answer.CountAnswer.{CountAnswer}
+use Rattle.scalars.specs.declared.answer.CountAnswer.the-variants as count
 use Rattle.rules.specs.Rule.{blankRule}
 use Rattle.rules.specs.Verdict.{onVerdict}
 use Rattle.overloads.specs.List.{mostRules, acceptedList, refusedList}
@@ -18,11 +18,11 @@ use Rattle.rules.specs.declared.rule.RuleAnswer.the-variants as rule
 use Rattle.overloads.specs.declared.list.List.{List}
 use Rattle.overloads.specs.declared.list.ListAnswer.{ListAnswer}
 use Rattle.rules.specs.declared.listing.Listing.{Listing}
-use Rattle.rules.specs.declared.regular.ConclusionRule.{ConclusionRule}
-use Rattle.rules.specs.declared.regular.ConclusionRule.the-variants.{ArgumentType, Scalar, Frexp, Modf, U32, I32, Vec2F, Vec4F, Vec4I, Vec4U}
-use Rattle.rules.specs.declared.regular.Regular.{Regular}
-use Rattle.rules.specs.declared.regular.RegularAnswer.{RegularAnswer}
-use Rattle.rules.specs.declared.regular.RegularAnswer.the-variants as regular
+use Rattle.regular.specs.declared.regular.ConclusionRule.{ConclusionRule}
+use Rattle.regular.specs.declared.regular.ConclusionRule.the-variants.{ArgumentType, Scalar, Frexp, Modf, U32, I32, Vec2F, Vec4F, Vec4I, Vec4U}
+use Rattle.regular.specs.declared.regular.Regular.{Regular}
+use Rattle.regular.specs.declared.regular.RegularAnswer.{RegularAnswer}
+use Rattle.regular.specs.declared.regular.RegularAnswer.the-variants as regular
 
 -- ---- a Regular set: arity, the two masks, the conclusion's number
 

@@ -1,47 +1,46 @@
 // Overload resolution, consensus and worksheets for C and Rust: each answer is one number of 64 bits.
 //
-// Every exported function ends on every input and tests it itself. It asks the function of the crates `domain`, `overloads` and
-// `worksheet` that its promise names, and packs the answer's number, place and values. Nothing is kept between calls.
+// Every exported function ends on every input and tests it itself. It asks the function of the crates below that its promise names,
+// and packs the answer's number, place and values. Nothing is kept between calls.
 
 mod list_sets;
-mod packing;
 mod regular_sets;
 
 ghost use mathlib.Core.Path.{_≡_};
-ghost use Rattle.domain.specs.Paper.{scalarPaper};
+ghost use Rattle.scalars.specs.Paper.{scalarPaper};
 ghost use Rattle.domain.specs.Conversion.{consensusOf};
 ghost use Rattle.overloads.specs.Call.{callOf, survivorsOfCall};
 ghost use Rattle.functions.specs.Functions.{functionCount, listingOf, ruleAt};
-ghost use Rattle.rules.specs.SetPaper.{rulePaper};
+ghost use Rattle.rules.specs.RulePaper.{rulePaper};
 ghost use Rattle.overloads.specs.CallPaper.{callPaper, survivorsPaper};
 ghost use Rattle.worksheet.specs.Answer.{bufferAfter};
 ghost use Rattle.worksheet.specs.Typing.{typing, answerOf, typePaper};
-ghost use Rattle.worksheet.specs.Machine.{runBytes};
-ghost use Rattle.worksheet.specs.Run.{ranOf};
-ghost use Rattle.bindings.specs.Packing.{callPacked, survivorsPacked, rulePacked, valuePacked, runPacked, on, baseOf};
-use crate::packing::NONE;
-use crate::packing::pack;
-use crate::packing::pack_refusal;
-use crate::packing::pack_rule_answer;
+ghost use Rattle.machine.specs.Machine.{runBytes};
+ghost use Rattle.machine.specs.Run.{ranOf};
+ghost use Rattle.packing.specs.Packing.{callPacked, survivorsPacked, rulePacked, valuePacked, runPacked, on, baseOf};
 use domain::Base;
-use domain::Scalar;
-use domain::ScalarAnswer;
 use domain::automatic_conversion_consensus;
 use functions::rule_at;
 pub use list_sets::azwukran_list_arg;
 pub use list_sets::azwukran_list_concrete_only;
 pub use list_sets::azwukran_list_preferred;
+use machine::Run;
+use machine::run_worksheet;
 use overloads::CallAnswer;
 use overloads::Survivors;
 use overloads::call_of;
 use overloads::survivors_of;
+use packing::NONE;
+use packing::pack;
+use packing::pack_refusal;
+use packing::pack_rule_answer;
 pub use regular_sets::azwukran_regular_arg;
 pub use regular_sets::azwukran_regular_concrete_only;
 pub use regular_sets::azwukran_regular_preferred;
 pub use regular_sets::azwukran_regular_rule;
-use worksheet::Run;
+use scalars::Scalar;
+use scalars::ScalarAnswer;
 use worksheet::TypeAnswer;
-use worksheet::run_worksheet;
 use worksheet::type_expression;
 
 // The rule that a call means: number, index in the full listing, result, number of arguments, place. The concrete-only switch is off

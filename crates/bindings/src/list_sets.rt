@@ -7,19 +7,19 @@ ghost use Rattle.overloads.specs.List.{listArg, listStep, listPreferred, refuse
 ghost use Rattle.overloads.specs.CallPaper.{chosenPaper};
 ghost use Rattle.overloads.specs.declared.list.ChosenAnswer.the-variants as chosen;
 ghost use Rattle.rules.specs.declared.rule.Keep.the-variants as keep;
-ghost use Rattle.bindings.specs.Packing.{membersPacked, callPacked};
+ghost use Rattle.packing.specs.Packing.{membersPacked, callPacked};
 ghost use Rattle.bindings.specs.Sets.{ruleIn, rulesIn, listFrom, onList};
-use crate::packing::NONE;
-use crate::packing::pack;
-use crate::packing::pack_members;
-use crate::packing::pack_no_members;
-use crate::packing::pack_refusal;
-use domain::Refusal;
-use domain::Verdict;
 use overloads::ChosenAnswer;
 use overloads::List;
 use overloads::ListAnswer;
+use packing::NONE;
+use packing::pack;
+use packing::pack_members;
+use packing::pack_no_members;
+use packing::pack_refusal;
 use rules::Rule;
+use scalars::Refusal;
+use scalars::Verdict;
 
 // The bytes of a rule.
 const RULE_BYTES: usize = 6;

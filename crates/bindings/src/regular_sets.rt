@@ -4,24 +4,25 @@
 
 ghost use mathlib.Core.Path.{_≡_};
 ghost use lib.ListN.{getD};
-ghost use Rattle.rules.specs.Regular.{regularArg, regularConcrete, regularPreferred, regularListing};
-ghost use Rattle.rules.specs.SetPaper.{regularPaper, rulePaper};
-ghost use Rattle.rules.specs.declared.regular.ConclusionRule.the-variants.{Vec4U};
-ghost use Rattle.rules.specs.declared.regular.RegularAnswer.the-variants as regular;
+ghost use Rattle.regular.specs.Regular.{regularArg, regularConcrete, regularPreferred, regularListing};
+ghost use Rattle.rules.specs.RulePaper.{rulePaper};
+ghost use Rattle.regular.specs.SetPaper.{regularPaper};
+ghost use Rattle.regular.specs.declared.regular.ConclusionRule.the-variants.{Vec4U};
+ghost use Rattle.regular.specs.declared.regular.RegularAnswer.the-variants as regular;
 ghost use Rattle.rules.specs.declared.rule.RuleAnswer.the-variants as rule;
-ghost use Rattle.bindings.specs.Packing.{regularPacked, rulePacked};
+ghost use Rattle.packing.specs.Packing.{regularPacked, rulePacked};
 ghost use Rattle.bindings.specs.Sets.{conclusions, regularFrom, onRegular, listedAt};
-use crate::packing::pack_regular_answer;
-use crate::packing::pack_rule_answer;
 use domain::ConstructorSet;
-use domain::CountAnswer;
-use domain::Refusal;
-use domain::ScalarSet;
-use rules::ConclusionRule;
+use packing::pack_regular_answer;
+use packing::pack_rule_answer;
+use regular::ConclusionRule;
+use regular::Regular;
+use regular::RegularAnswer;
 use rules::Listing;
-use rules::Regular;
-use rules::RegularAnswer;
 use rules::RuleAnswer;
+use scalars::CountAnswer;
+use scalars::Refusal;
+use scalars::ScalarSet;
 
 // How many conclusions there are.
 const CONCLUSION_COUNT: u8 = 10;

@@ -8,12 +8,12 @@ use native.Mathlib.Numerals.{add-one}
 use native.Mathlib.Omega.{arith}
 use lib.ListN.{length, getD, drop, drop-of-length-le}
 use borrow.Author.Tests.{lt-ltb, le-ltb, ne-eqb}
-use Rattle.domain.specs.Mask.{choose}
-use Rattle.domain.specs.Domain.{converts}
+use Rattle.scalars.specs.Mask.{choose}
+use Rattle.scalars.specs.Domain.{converts}
 use Rattle.domain.specs.Conversion.{combination, none, agree, agreeWithFirst}
-use Rattle.domain.specs.declared.scalar_set.ScalarAnswer.the-variants.{Scalar, Refused}
-use Rattle.domain.specs.declared.refusal.Refusal.the-variants.{NoConsensus, NothingToCombine}
-use Rattle.domain.proofs.Table.{tabulate, entry}
+use Rattle.scalars.specs.declared.scalar_set.ScalarAnswer.the-variants.{Scalar, Refused}
+use Rattle.scalars.specs.declared.refusal.Refusal.the-variants.{NoConsensus, NothingToCombine}
+use Rattle.scalars.proofs.Table.{tabulate, entry}
 use Rattle.domain.proofs.Codes.{from-here}
 
 -- the table of 144 entries, one for each ordered pair

@@ -8,11 +8,11 @@ use lib.Count.{trailingZeros}
 use lib.Dec.{ltb, lit≤}
 use lib.ListN.{length}
 use borrow.Author.Tests.{lt-ltb, ltb-false, eqb-true}
-use Rattle.domain.specs.Mask.{either, isOne, bits}
+use Rattle.scalars.specs.Mask.{either, isOne, bits}
 use Rattle.domain.specs.Constructor.{setSize, sizeOf, sizeOfOne, outsideSizes}
 use Rattle.domain.specs.declared.constructor_set.SizeAnswer.the-variants.{Size, Refused}
-use Rattle.domain.specs.declared.refusal.Refusal.the-variants.{SeveralConstructors}
-use Rattle.domain.proofs.Bits.{bits-first, bits-within}
+use Rattle.scalars.specs.declared.refusal.Refusal.the-variants.{SeveralConstructors}
+use Rattle.scalars.proofs.Bits.{bits-first, bits-within}
 
 module _ (m : ℕ) (p : 0 < m) (h : m < 2 ^ 13) where
   abbrev low : List ℕ

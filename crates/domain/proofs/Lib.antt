@@ -1,14 +1,6 @@
--- Laws that the proofs of several functions use.
-pub mod Table
-pub mod Filters
-pub mod Sifts
-pub mod Masks
-pub mod Meets
-pub mod Bits
-pub mod Fills
-pub mod Scalars
+-- Laws of constructors, type codes and combinations that several proofs use.
 pub mod Constructors
 pub mod TypeCodes
 pub mod Codes
 pub mod Combinations
-pub mod Papers
+pub mod TypePapers

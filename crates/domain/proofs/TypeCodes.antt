@@ -6,16 +6,16 @@ use Prim.Native.Nat.{ℕ, _+_, _-_, _*_, _≤_, _<_}
 use native.Mathlib.Omega.{arith}
 use lib.Dec.{T, eqb, eqb→eq, leb, ltb}
 use borrow.Author.Tests.{ltb-true, leb-true, lt-ltb, le-ltb, le-leb, ne-eqb}
-use Rattle.domain.specs.Mask.{choose, both, upTo}
+use Rattle.scalars.specs.Mask.{choose, both, upTo}
 use Rattle.domain.specs.TypeCode.{partsOf, codeOf, ifKnown, valueCode, predeclaredCode}
-use Rattle.domain.specs.declared.refusal.Refusal.the-variants.{Unknown, NoConclusion}
+use Rattle.scalars.specs.declared.refusal.Refusal.the-variants.{Unknown, NoConclusion}
 use Rattle.domain.specs.declared.type_code.TypeParts.{TypeParts}
 use Rattle.domain.specs.declared.type_code.TypeParts.the-variants.{Value, Other, Modf, Frexp}
 use Rattle.domain.specs.declared.type_code.PartsAnswer.{PartsAnswer}
 use Rattle.domain.specs.declared.type_code.PartsAnswer.the-variants as parts
 use Rattle.domain.specs.declared.type_code.CodeAnswer.{CodeAnswer}
 use Rattle.domain.specs.declared.type_code.CodeAnswer.the-variants as code
-use Rattle.domain.proofs.Table.{at}
+use Rattle.scalars.proofs.Table.{at}
 
 -- ---- from a code to its parts and back: one test at each of the 181
 

@@ -3,10 +3,10 @@ use mathlib.Core.Bool.{Bool}
 use mathlib.Core.List.{List, [], _∷_}
 use Prim.Native.Nat.{ℕ, _+_, _-_, _*_, _/_, _%_, _^_}
 use lib.Dec.{eqb, leb, ltb}
-use Rattle.domain.specs.Mask.{choose, both, either, filter, bits, maskOf}
-use Rattle.domain.specs.Domain.{constructors, value?, constructorPart}
+use Rattle.scalars.specs.Mask.{choose, both, either, filter, bits, maskOf}
+use Rattle.scalars.specs.Domain.{constructors, value?, constructorPart}
 use Rattle.domain.specs.TypeCode.{valueCode}
-use Rattle.domain.specs.declared.refusal.Refusal.the-variants.{EmptySet, SeveralConstructors, Unknown}
+use Rattle.scalars.specs.declared.refusal.Refusal.the-variants.{EmptySet, SeveralConstructors, Unknown}
 use Rattle.domain.specs.declared.constructor_set.ConstructorSize.{ConstructorSize}
 use Rattle.domain.specs.declared.constructor_set.ConstructorSize.the-variants.{Scalar, Vector, Matrix}
 use Rattle.domain.specs.declared.constructor_set.SizeAnswer.{SizeAnswer}

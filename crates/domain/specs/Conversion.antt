@@ -3,15 +3,15 @@ use mathlib.Core.List.{List, [], _∷_}
 use Prim.Native.Nat.{ℕ, suc, _+_}
 use lib.Dec.{eqb, ltb}
 use lib.ListN.{length}
-use Rattle.domain.specs.Mask.{choose}
-use Rattle.domain.specs.Domain.{converts, value?, scalarPart, firstUnknown}
-use Rattle.domain.specs.declared.refusal.Refusal.the-variants.{Unknown, NothingToCombine, NoConsensus}
-use Rattle.domain.specs.declared.scalar_set.ScalarAnswer.{ScalarAnswer}
-use Rattle.domain.specs.declared.scalar_set.ScalarAnswer.the-variants as answer
+use Rattle.scalars.specs.Mask.{choose}
+use Rattle.scalars.specs.Domain.{converts, value?, scalarPart, firstUnknown}
+use Rattle.scalars.specs.declared.refusal.Refusal.the-variants.{Unknown, NothingToCombine, NoConsensus}
+use Rattle.scalars.specs.declared.scalar_set.ScalarAnswer.{ScalarAnswer}
+use Rattle.scalars.specs.declared.scalar_set.ScalarAnswer.the-variants as answer
 use Rattle.domain.specs.declared.conversion.Base.{Base}
 use Rattle.domain.specs.declared.conversion.Base.the-variants as base
-use Rattle.domain.specs.declared.answer.Test.{Test}
-use Rattle.domain.specs.declared.answer.Test.the-variants as test
+use Rattle.scalars.specs.declared.answer.Test.{Test}
+use Rattle.scalars.specs.declared.answer.Test.the-variants as test
 use Rattle.domain.specs.declared.conversion.Combination.{Combination}
 use Rattle.domain.specs.declared.conversion.Combination.the-variants as combined
 

@@ -1,10 +1,5 @@
 -- What a reader must believe of this crate.
-pub mod Mask
-pub mod Domain
-pub mod Refusal
-pub mod OneBits
-pub mod Scalar
 pub mod TypeCode
 pub mod Constructor
 pub mod Conversion
-pub mod Paper
+pub mod TypePaper

@@ -1,9 +1,9 @@
 -- 'The domain': a type code taken apart and put together, with the refusals of what is no type code.
 use Prim.Native.Nat.{ℕ, _+_, _-_, _*_, _/_, _%_}
 use lib.Dec.{eqb, leb, ltb}
-use Rattle.domain.specs.Mask.{choose, both}
-use Rattle.domain.specs.Domain.{value?, known?, constructorPart, scalarPart}
-use Rattle.domain.specs.declared.refusal.Refusal.the-variants.{Unknown, NoConclusion}
+use Rattle.scalars.specs.Mask.{choose, both}
+use Rattle.scalars.specs.Domain.{value?, known?, constructorPart, scalarPart}
+use Rattle.scalars.specs.declared.refusal.Refusal.the-variants.{Unknown, NoConclusion}
 use Rattle.domain.specs.declared.type_code.TypeParts.{TypeParts}
 use Rattle.domain.specs.declared.type_code.TypeParts.the-variants.{Value, Other, Modf, Frexp}
 use Rattle.domain.specs.declared.type_code.PartsAnswer.{PartsAnswer}

@@ -6,16 +6,16 @@ ghost use mathlib.Core.Path.{_≡_};
 ghost use mathlib.Core.List.{map};
 ghost use Prim.Native.Nat.{_^_};
 ghost use lib.Bits.{bitAnd};
-ghost use Rattle.domain.specs.Mask.{upTo, isOne, bits};
-ghost use Rattle.domain.specs.OneBits.{membersWithin};
+ghost use Rattle.scalars.specs.Mask.{upTo, isOne, bits};
+ghost use Rattle.scalars.specs.OneBits.{membersWithin};
 ghost use Rattle.domain.specs.Constructor.{singletonOfCode, setSize, sizeOf, constructorOf, innerOf, outsideSizes, vecn};
-use crate::one_bits_iter::Members;
-use crate::one_bits_iter::members_of;
-use crate::one_bits_iter::no_members;
-use crate::refusal::Refusal;
-use crate::scalar_set::Scalar;
 use crate::type_code::CodeAnswer;
 use crate::type_code::value_code;
+use scalars::Members;
+use scalars::Refusal;
+use scalars::Scalar;
+use scalars::members_of;
+use scalars::no_members;
 
 // A set of constructors: bit k stands for the constructor numbered k.
 pub struct ConstructorSet(pub u16);

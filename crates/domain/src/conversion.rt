@@ -7,16 +7,16 @@ ghost use mathlib.Core.Path.{_≡_};
 ghost use Prim.Native.Nat.{_<_, _≤_};
 ghost use lib.Dec.{ltb};
 ghost use lib.ListN.{drop, length};
-ghost use Rattle.domain.specs.Mask.{both};
-ghost use Rattle.domain.specs.Domain.{converts};
+ghost use Rattle.scalars.specs.Mask.{both};
+ghost use Rattle.scalars.specs.Domain.{converts};
 ghost use Rattle.domain.specs.Conversion.{convertsTo, combination, combineOf, consensusOf, consensusWith, consensusWithout, agree};
-use crate::answer::Test;
-use crate::refusal::Refusal;
-use crate::scalar_set::Scalar;
-use crate::scalar_set::ScalarAnswer;
-use crate::scalar_set::ScalarSet;
 use crate::type_code::VALUES;
 use crate::type_code::first_unknown;
+use scalars::Refusal;
+use scalars::Scalar;
+use scalars::ScalarAnswer;
+use scalars::ScalarSet;
+use scalars::Test;
 
 // What two scalars combine to.
 pub enum Combination {

@@ -5,11 +5,11 @@
 
 ghost use mathlib.Core.Path.{_≡_};
 ghost use Prim.Native.Nat.{_≤_};
-ghost use Rattle.domain.specs.Domain.{firstUnknown, isAbstract};
+ghost use Rattle.scalars.specs.Domain.{firstUnknown, isAbstract};
 ghost use Rattle.domain.specs.TypeCode.{partsOf, codeOf, valueCode, predeclaredCode, leafScalar};
 use crate::constructor_set::Constructor;
-use crate::refusal::Refusal;
-use crate::scalar_set::Scalar;
+use scalars::Refusal;
+use scalars::Scalar;
 
 // How many codes are value types; the first of these that is not one stands for every other type.
 pub const VALUES: u8 = 156;

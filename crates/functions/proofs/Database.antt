@@ -11,19 +11,19 @@ use lib.Dec.{eqb, leb, ltb}
 use lib.ListN.{length, take, drop, getElem?, replicate, List·getD-eq-default}
 use lib.Seq.{take-all}
 use borrow.Author.Tests.{leb-true, ltb-true, ltb-false, eqb-true}
-use Rattle.domain.specs.Mask.{choose, both, every, digit, bits}
-use Rattle.domain.specs.Domain.{value?, known?}
+use Rattle.scalars.specs.Mask.{choose, both, every, digit, bits}
+use Rattle.scalars.specs.Domain.{value?, known?}
 use Rattle.rules.specs.Signature.{Signature}
 use Rattle.rules.specs.Verdict.{longest}
 use Rattle.domain.specs.TypeCode.{predeclaredCode}
-use Rattle.rules.specs.Regular.{regularRules, codesOf, concludedOf, allConclude}
+use Rattle.regular.specs.Regular.{regularRules, codesOf, concludedOf, allConclude}
 use Rattle.functions.specs.Sequences.{floatScalars, concreteFloatScalars, concreteIntScalars, vectorSizes, vector, matrix, scalarOrVecn}
-use Rattle.rules.specs.Rule.{short?}
+use Rattle.rules.specs.Rule.{mostArguments, short?}
 use Rattle.functions.specs.Functions.{functionCount, functionSets, functionSetOf, listedRules, rulesIn, listingOf, ruleIn, ruleAt, Built}
 use Rattle.functions.specs.declared.mathfunction.FunctionSet.{FunctionSet}
 use Rattle.functions.specs.declared.mathfunction.FunctionSet.the-variants as set
-use Rattle.domain.specs.declared.refusal.Refusal.the-variants.{Unknown}
-use Rattle.rules.specs.declared.regular.Regular.{Regular}
+use Rattle.scalars.specs.declared.refusal.Refusal.the-variants.{Unknown}
+use Rattle.regular.specs.declared.regular.Regular.{Regular}
 use Rattle.rules.specs.declared.rule.RuleAnswer.the-variants.{Refused}
 use Rattle.functions.proofs.Prefixes.{every-at, both-true}
 use Rattle.functions.proofs.Runs.{run-at}
@@ -60,20 +60,28 @@ each-number p e u f = go (ltb f functionCount) refl
 
 -- ---- facts about listings
 
+-- an unknown function has no rules
+pub unknown-none : (f : ℕ) → functionCount ≤ f → listingOf f ≡ []
+unfolding listingOf
+unknown-none f h = ap rulesIn (no-function h)
+
 each-listing : (p : List Signature → Bool) → every (λ s. p (rulesIn s)) functionSets ≡ true → p [] ≡ true → (f : ℕ) → p (listingOf f) ≡ true
 unfolding listingOf
 each-listing p e u f = each-number (λ s. p (rulesIn s)) e u f
 
--- at most four arguments
-pub short-rules : (f : ℕ) → every short? (listingOf f) ≡ true
+-- at most four arguments, as a rule's record has fields for
+short-rules : (f : ℕ) → every short? (listingOf f) ≡ true
 unfolding functionSets bits regularRules codesOf listedRules floatScalars concreteFloatScalars concreteIntScalars vectorSizes scalarOrVecn
 short-rules f = each-listing (every short?) refl refl f
 
 -- an element of a list that passes a test throughout
-pub every-element : (p : Signature → Bool) (rs : List Signature) → every p rs ≡ true → (i : ℕ) (r : Signature) → getElem? rs i ≡ some r → p r ≡ true
+every-element : (p : Signature → Bool) (rs : List Signature) → every p rs ≡ true → (i : ℕ) (r : Signature) → getElem? rs i ≡ some r → p r ≡ true
 every-element p [] e i r h = let z : _≡_ {A = ℕ} 0 1 = cc in absurd (omega arith)
 every-element p (x ∷ rs) e zero r h = let g : x ≡ r = cc in subst (λ (s : Signature). p s ≡ true) g (both-true (p x) (every p rs) e .0)
 every-element p (x ∷ rs) e (suc i) r h = every-element p rs (both-true (p x) (every p rs) e .1) i r h
+
+pub four-arguments : (f i : ℕ) (r : Signature) → getElem? (listingOf f) i ≡ some r → length (r .arguments) ≤ mostArguments
+four-arguments f i r e = leb-true _ _ (every-element short? (listingOf f) (short-rules f) i r e)
 
 -- as many arguments as the longest rule has
 abbrev long : ℕ → Signature → Bool
@@ -90,12 +98,15 @@ pub one-length : (f i : ℕ) (r : Signature) → getElem? (listingOf f) i ≡ so
 one-length f i r h = eqb-true _ _ (every-element (long (longest (listingOf f))) (listingOf f) (alike-rules f) i r h)
 
 -- arguments are 0 to 155, results 0 to 180
-abbrev pub codesKnown : Signature → Bool
+abbrev codesKnown : Signature → Bool
 codesKnown r = both (every value? (r .arguments)) (known? (r .result))
 
-pub known-rules : (f : ℕ) → every codesKnown (listingOf f) ≡ true
+known-rules : (f : ℕ) → every codesKnown (listingOf f) ≡ true
 unfolding functionSets bits regularRules codesOf concludedOf predeclaredCode listedRules floatScalars concreteFloatScalars concreteIntScalars vectorSizes vector matrix scalarOrVecn
 known-rules f = each-listing (every codesKnown) refl refl f
+
+pub result-known : (f i : ℕ) (r : Signature) → getElem? (listingOf f) i ≡ some r → r .result ≤ 180
+result-known f i r e = leb-true _ _ (both-true (every value? (r .arguments)) (known? (r .result)) (every-element codesKnown (listingOf f) (known-rules f) i r e) .1)
 
 -- at most 63 rules, and at least one
 pub few-rules : (f : ℕ) → length (listingOf f) ≤ 63

@@ -6,12 +6,12 @@ use mathlib.Core.List.{[], _∷_}
 use Prim.Native.Nat.{ℕ}
 use lib.Dec.{eqb}
 use lib.ListN.{getD}
-use Rattle.domain.specs.Mask.{choose}
-use Rattle.domain.specs.declared.refusal.Refusal.{Refusal}
-use Rattle.domain.specs.declared.refusal.Refusal.the-variants as refusal
-use Rattle.domain.proofs.Papers.{read, reads-refused, one-to-one}
-use Rattle.rules.specs.declared.regular.ConclusionRule.{ConclusionRule}
-use Rattle.rules.proofs.SetPapers.{conclusionOf, conclusion-back}
+use Rattle.scalars.specs.Mask.{choose}
+use Rattle.scalars.specs.declared.refusal.Refusal.{Refusal}
+use Rattle.scalars.specs.declared.refusal.Refusal.the-variants as refusal
+use Rattle.scalars.proofs.Papers.{read, reads-refused, one-to-one}
+use Rattle.regular.specs.declared.regular.ConclusionRule.{ConclusionRule}
+use Rattle.regular.proofs.SetPapers.{conclusionOf, conclusion-back}
 use Rattle.functions.specs.declared.mathfunction.FunctionSet.{FunctionSet}
 use Rattle.functions.specs.declared.mathfunction.FunctionSet.the-variants.{Regular, List, Unknown}
 use Rattle.functions.specs.declared.mathfunction.Listed.{Listed}

@@ -8,13 +8,13 @@ use native.Mathlib.Nat.{zero-mul, suc-mul, zero-add, le-of-suc-le-suc, not-suc-l
 use native.Mathlib.Omega.{arith}
 use lib.ListN.{length, getD, replicate, length-map, List·getD-append}
 use lib.Seq.{getD-append-add}
-use Rattle.domain.specs.Mask.{every}
+use Rattle.scalars.specs.Mask.{every}
 use Rattle.rules.specs.Signature.{Signature}
 use Rattle.rules.specs.Rule.{blankRule, ruleOf}
-use Rattle.rules.specs.Regular.{pairs, codesOf, regularRules, signatureFor, ruleFrom, ruleFor, concludedOf, concluded?, codeIn, allConclude}
+use Rattle.regular.specs.Regular.{pairs, codesOf, regularRules, signatureFor, ruleFrom, ruleFor, concludedOf, concluded?, codeIn, allConclude}
 use Rattle.functions.specs.Functions.{ruleIn}
-use Rattle.domain.specs.declared.refusal.Refusal.the-variants.{Unknown}
-use Rattle.rules.specs.declared.regular.Regular.{Regular}
+use Rattle.scalars.specs.declared.refusal.Refusal.the-variants.{Unknown}
+use Rattle.regular.specs.declared.regular.Regular.{Regular}
 use Rattle.rules.specs.declared.rule.RuleAnswer.the-variants.{Rule, Refused}
 use Rattle.domain.specs.declared.type_code.CodeAnswer.{CodeAnswer}
 use Rattle.domain.specs.declared.type_code.CodeAnswer.the-variants as code

@@ -7,7 +7,7 @@ use Prim.Native.Nat.{ℕ, _/_, _%_, _≤_, _<_}
 use lib.Dec.{eqb, lit≤}
 use lib.ListN.{length, getD, length-map, List·getD-eq-default}
 use borrow.Author.Tests.{eq-eqb, ne-eqb}
-use Rattle.domain.specs.Mask.{choose}
+use Rattle.scalars.specs.Mask.{choose}
 use Rattle.rules.specs.Rule.{blankRule, ruleOf}
 use Rattle.functions.specs.Sequences.{floatScalars, concreteFloatScalars, concreteIntScalars, vectorSizes, vector, matrix, scalarOrVecn}
 use Rattle.functions.specs.Functions.{listedRules}

@@ -10,7 +10,7 @@ use lib.Dec.{ltb}
 use borrow.Author.Tests.{ltb-true, ltb-false}
 use lib.ListN.{length, take, drop, getD, drop-of-length-le}
 use lib.Seq.{take-all, drop-cons, getD-take, length-take-le}
-use Rattle.domain.specs.Mask.{both, every}
+use Rattle.scalars.specs.Mask.{both, every}
 
 -- no more than the list has are taken
 pub take-min : {A : Type 0} (xs : List A) (n m : ℕ) {k : ℕ} → length xs ≡ m → k ≡ min n m → take k xs ≡ take n xs

@@ -10,14 +10,14 @@ use lib.Arith.{digits-lt}
 use lib.Count.{ones, trailingZeros}
 use lib.Dec.{ltb, lit≤}
 use lib.ListN.{length, getD}
-use Rattle.domain.specs.Mask.{consIf, odd, select, countFrom, bits}
-use Rattle.rules.specs.Regular.{pairs, codesOf, regularRules, regularRule}
+use Rattle.scalars.specs.Mask.{consIf, odd, select, countFrom, bits}
+use Rattle.regular.specs.Regular.{pairs, codesOf, regularRules, regularRule}
 use Rattle.functions.specs.Functions.{Built, ruleIn}
-use Rattle.domain.specs.declared.refusal.Refusal.the-variants.{Unknown}
-use Rattle.rules.specs.declared.regular.Regular.{Regular}
+use Rattle.scalars.specs.declared.refusal.Refusal.the-variants.{Unknown}
+use Rattle.regular.specs.declared.regular.Regular.{Regular}
 use Rattle.rules.specs.declared.rule.RuleAnswer.the-variants.{Refused}
-use Rattle.domain.proofs.Bits.{bits-first, bits-none, bits-within, bits-count, bits-length}
-use Rattle.rules.proofs.Regulars.{codes-count, known-rule}
+use Rattle.scalars.proofs.Bits.{bits-first, bits-none, bits-within, bits-count, bits-length}
+use Rattle.regular.proofs.Regulars.{codes-count, known-rule}
 use Rattle.functions.proofs.Indices.{pairs-at, regular-here, regular-past}
 
 -- ---- the bits of a mask

@@ -9,8 +9,8 @@ use native.Mathlib.Omega.{arith}
 use lib.ListN.{length, take, drop, getD, replicate, getD-replicate, drop-of-length-le}
 use lib.Seq.{getD-take, drop-cons}
 use types.Run.{OneOf}
-use Rattle.domain.specs.Mask.{upTo}
-use Rattle.domain.proofs.Bits.{upTo-length, upTo-at}
+use Rattle.scalars.specs.Mask.{upTo}
+use Rattle.scalars.proofs.Bits.{upTo-length, upTo-at}
 use Rattle.functions.proofs.Prefixes.{map-at}
 
 module _ {A : Type 0} (d : A) where

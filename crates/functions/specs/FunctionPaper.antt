@@ -2,9 +2,9 @@
 -- unknown function is refusal 7 at 0.
 use mathlib.Core.List.{[], _∷_}
 use Prim.Native.Nat.{ℕ}
-use Rattle.domain.specs.Paper.{Paper, accepted, refused}
-use Rattle.domain.specs.declared.refusal.Refusal.the-variants as refusal
-use Rattle.rules.specs.SetPaper.{regularValues}
+use Rattle.scalars.specs.Paper.{Paper, accepted, refused}
+use Rattle.scalars.specs.declared.refusal.Refusal.the-variants as refusal
+use Rattle.regular.specs.SetPaper.{regularValues}
 use Rattle.functions.specs.declared.mathfunction.FunctionSet.{FunctionSet}
 use Rattle.functions.specs.declared.mathfunction.FunctionSet.the-variants.{Regular, List, Unknown}
 use Rattle.functions.specs.declared.mathfunction.Listed.{Listed}

@@ -6,23 +6,23 @@ use mathlib.Core.List.{[], _∷_, _++_}
 use Prim.Native.Nat.{ℕ, zero, suc, _<_}
 use lib.Dec.{eqb, ltb}
 use lib.ListN.{getD, replicate}
-use Rattle.domain.specs.Mask.{choose, both, either, filter, maskOf}
-use Rattle.domain.specs.Domain.{constructors, abstract?, integer?, float?, numeric?}
+use Rattle.scalars.specs.Mask.{choose, both, either, filter, maskOf}
+use Rattle.scalars.specs.Domain.{constructors, abstract?, integer?, float?, numeric?}
 use Rattle.rules.specs.Signature.{Signature}
-use Rattle.domain.specs.Scalar.{setOf}
+use Rattle.scalars.specs.Scalar.{setOf}
 use Rattle.domain.specs.Constructor.{vector?}
 use Rattle.rules.specs.Rule.{ruleOf}
-use Rattle.rules.specs.Regular.{Known, regularRules, allConclude}
+use Rattle.regular.specs.Regular.{Known, regularRules, allConclude}
 use Rattle.functions.specs.Sequences.{floatScalars, concreteFloatScalars, concreteIntScalars, vectorSizes, vector, matrix, scalarOrVecn}
-use Rattle.domain.specs.declared.refusal.Refusal.the-variants.{Unknown}
+use Rattle.scalars.specs.declared.refusal.Refusal.the-variants.{Unknown}
 use Rattle.domain.specs.declared.constructor_set.ConstructorSet.{ConstructorSet}
 use Rattle.functions.specs.declared.mathfunction.FunctionSet.{FunctionSet}
 use Rattle.functions.specs.declared.mathfunction.FunctionSet.the-variants as set
 use Rattle.functions.specs.declared.mathfunction.Listed.{Listed}
 use Rattle.functions.specs.declared.mathfunction.Listed.the-variants.{Ldexp, Outer, Refract, Mix, Transpose, ExtractBits, InsertBits}
-use Rattle.rules.specs.declared.regular.ConclusionRule.{ConclusionRule}
-use Rattle.rules.specs.declared.regular.ConclusionRule.the-variants as to
-use Rattle.rules.specs.declared.regular.Regular.{Regular}
+use Rattle.regular.specs.declared.regular.ConclusionRule.{ConclusionRule}
+use Rattle.regular.specs.declared.regular.ConclusionRule.the-variants as to
+use Rattle.regular.specs.declared.regular.Regular.{Regular}
 use Rattle.rules.specs.declared.rule.RuleAnswer.{RuleAnswer}
 use Rattle.rules.specs.declared.rule.RuleAnswer.the-variants as answer
 

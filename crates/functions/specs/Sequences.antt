@@ -3,8 +3,8 @@
 use mathlib.Core.Bool.{not}
 use mathlib.Core.List.{List, [], _∷_}
 use Prim.Native.Nat.{ℕ, _+_, _-_, _*_}
-use Rattle.domain.specs.Mask.{both, filter}
-use Rattle.domain.specs.Domain.{scalars, abstract?, float?}
+use Rattle.scalars.specs.Mask.{both, filter}
+use Rattle.scalars.specs.Domain.{scalars, abstract?, float?}
 
 -- ABSTRACT_FLOAT, F32, F16, F64
 unfoldable pub floatScalars : List ℕ

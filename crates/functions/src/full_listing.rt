@@ -6,16 +6,16 @@
 ghost use mathlib.Core.Path.{_≡_};
 ghost use Prim.Native.Nat.{_<_};
 ghost use lib.ListN.{length, getD};
-ghost use Rattle.domain.specs.Mask.{bits};
-ghost use Rattle.rules.specs.Regular.{regularRules};
+ghost use Rattle.scalars.specs.Mask.{bits};
+ghost use Rattle.regular.specs.Regular.{regularRules};
 ghost use Rattle.functions.specs.Functions.{Built, ruleIn, ruleAt};
 use crate::listed_rules::listed_rule;
 use crate::listed_rules::rule_count;
 use crate::mathfunction::FunctionSet;
 use crate::mathfunction::function_set;
-use domain::Refusal;
-use rules::Regular;
+use regular::Regular;
 use rules::RuleAnswer;
+use scalars::Refusal;
 
 // The rule at an index of the function's full listing. Refused 7, at 0 for an unknown function, at 1 for an unknown index.
 pub fn rule_at(function: u8, index: u8) -> RuleAnswer

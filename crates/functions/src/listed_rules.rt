@@ -17,9 +17,9 @@ use crate::utils::matrix;
 use crate::utils::scalar_or_vecn;
 use crate::utils::vector;
 use crate::utils::vector_sizes;
-use domain::Scalar;
 use rules::Rule;
 use rules::UNUSED;
+use scalars::Scalar;
 
 // How many rules a List has.
 pub fn rule_count(listed: Listed) -> u8

@@ -7,9 +7,9 @@ ghost use mathlib.Core.Path.{_≡_};
 ghost use Prim.Native.Nat.{_<_, _≤_};
 ghost use Rattle.functions.specs.Functions.{functionSetOf};
 use domain::ConstructorSet;
-use domain::ScalarSet;
-use rules::ConclusionRule;
-use rules::Regular;
+use regular::ConclusionRule;
+use regular::Regular;
+use scalars::ScalarSet;
 
 // How many functions there are.
 pub const FUNCTION_COUNT: u8 = 79;

@@ -7,7 +7,7 @@ ghost use mathlib.Core.Path.{_≡_};
 ghost use Prim.Native.Nat.{_<_, _≤_};
 ghost use lib.ListN.{getD};
 ghost use Rattle.functions.specs.Sequences.{floatScalars, concreteFloatScalars, concreteIntScalars, vectorSizes, vector, matrix, scalarOrVecn};
-use domain::Scalar;
+use scalars::Scalar;
 
 // The floating-point scalars. F32 comes before other sizes: this is how conversion rank is represented.
 pub(crate) fn float_scalars(i: u8) -> Scalar

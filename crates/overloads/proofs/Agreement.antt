@@ -12,29 +12,29 @@ use native.Mathlib.Omega.{arith}
 use lib.Dec.{leb}
 use lib.ListN.{length}
 use borrow.Author.Tests.{le-leb, leb-true}
-use Rattle.domain.specs.Mask.{choose, filter, every}
+use Rattle.scalars.specs.Mask.{choose, filter, every}
 use Rattle.rules.specs.Signature.{Signature}
 use Rattle.rules.specs.Rule.{ruleOf, passes}
 use Rattle.overloads.specs.List.{mostRules, listing, acceptedList, refusedList, kept, listArg}
 use Rattle.rules.specs.Verdict.{onVerdict}
-use Rattle.rules.specs.Regular.{Known, regularRules, regularVerdict, allConclude}
+use Rattle.regular.specs.Regular.{Known, regularRules, regularVerdict, allConclude}
 use Rattle.overloads.specs.Expansion.{listOf, expanded}
 use Rattle.overloads.specs.Agreement.{Expands, inTurn, stepRegular, askList, nextRegular, nextList, knownStep, someArgument, SamePreferred, Agreed}
-use Rattle.domain.specs.declared.answer.Verdict.{Verdict}
-use Rattle.domain.specs.declared.answer.Verdict.the-variants.{Accepted, Refused}
+use Rattle.scalars.specs.declared.answer.Verdict.{Verdict}
+use Rattle.scalars.specs.declared.answer.Verdict.the-variants.{Accepted, Refused}
 use Rattle.overloads.specs.declared.list.List.{List}
-use Rattle.domain.specs.declared.refusal.Refusal.the-variants.{TooMany, NoConclusion}
-use Rattle.rules.specs.declared.regular.Regular.{Regular}
-use Rattle.rules.specs.declared.regular.RegularAnswer.the-variants as regular
+use Rattle.scalars.specs.declared.refusal.Refusal.the-variants.{TooMany, NoConclusion}
+use Rattle.regular.specs.declared.regular.Regular.{Regular}
+use Rattle.regular.specs.declared.regular.RegularAnswer.the-variants as regular
 use Rattle.rules.specs.declared.rule.Keep.{Keep}
 use Rattle.rules.specs.declared.rule.Keep.the-variants.{Argument, Concrete}
-use Rattle.rules.proofs.Regulars.{accepted-known, known-accepted}
-use Rattle.domain.proofs.Filters.{both-left, both-right}
+use Rattle.regular.proofs.Regulars.{accepted-known, known-accepted}
+use Rattle.scalars.proofs.Filters.{both-left, both-right}
 use Rattle.overloads.proofs.InTurn.{lasts, listed-after}
 use Rattle.overloads.proofs.Steps.{listing-kept}
 use Rattle.overloads.proofs.SetSteps.{Lasting, step-rules, step-lasting, step-known, step-concludes, asked-regular}
 use Rattle.overloads.proofs.Preferred.{OneShape, argument-one, step-one, regular-first, list-first}
-use Rattle.rules.proofs.RegularRules.{rules-short, rules-typed}
+use Rattle.regular.proofs.RegularRules.{rules-short, rules-typed}
 use Rattle.overloads.proofs.Expansions.{Tested, listing-of, valid-of, accepted-of, kept-tested, step-answer}
 
 -- ---- both listings, after any steps, are the first one filtered by each step's test in turn

@@ -3,7 +3,7 @@
 use mathlib.Core.Path.{_≡_, refl}
 use mathlib.Core.List.{[], _∷_}
 use lib.ListN.{getD}
-use Rattle.domain.proofs.Papers.{read, reads-refused, one-to-one}
+use Rattle.scalars.proofs.Papers.{read, reads-refused, one-to-one}
 use Rattle.overloads.specs.CallPaper.{chosenPaper, callPaper, survivorsPaper}
 use Rattle.overloads.specs.declared.call.CallAnswer.{CallAnswer}
 use Rattle.overloads.specs.declared.call.CallAnswer.the-variants as call

@@ -9,14 +9,14 @@ use native.Mathlib.Omega.{arith}
 use lib.Dec.{eqb, leb, ltb}
 use lib.ListN.{length, getElem?, length-replicate}
 use borrow.Author.Tests.{eqb-true, eq-eqb, leb-true, ltb-true, not-true}
-use Rattle.domain.specs.Mask.{both, every}
+use Rattle.scalars.specs.Mask.{both, every}
 use Rattle.rules.specs.Signature.{Signature}
 use Rattle.rules.specs.Verdict.{longest}
 use Rattle.overloads.specs.Taking.{OneLength}
-use Rattle.rules.specs.Regular.{codesOf, signatureFor, regularRules, emptySet?, allConclude}
+use Rattle.regular.specs.Regular.{codesOf, signatureFor, regularRules, emptySet?, allConclude}
 use Rattle.overloads.specs.Call.{Callable}
-use Rattle.rules.specs.declared.regular.Regular.{Regular}
-use Rattle.domain.proofs.Filters.{both-left, both-right, both-true}
+use Rattle.regular.specs.declared.regular.Regular.{Regular}
+use Rattle.scalars.proofs.Filters.{both-left, both-right, both-true}
 
 -- ---- a Regular set
 

@@ -10,12 +10,12 @@ use lib.Dec.{ltb}
 use lib.ListN.{length, getD, take, length-take}
 use lib.Seq.{getD-take}
 use borrow.Author.Tests.{ltb-true, ltb-false}
-use Rattle.domain.specs.Mask.{choose, either}
+use Rattle.scalars.specs.Mask.{choose, either}
 use Rattle.rules.specs.Signature.{Signature, reaches, takesAt, takes, concrete}
 use Rattle.overloads.specs.Choice.{Entry, number, keep, Narrowed, left, emptied, narrow, wrongCount, first, concreteStep, afterOperands, resolve}
 use Rattle.rules.specs.Verdict.{longest}
 use Rattle.overloads.specs.Taking.{Takes, NoRule, Best, OneLength, LeftAfter, Says}
-use Rattle.domain.proofs.Filters.{both-left, both-right, both-true}
+use Rattle.scalars.proofs.Filters.{both-left, both-right, both-true}
 use Rattle.overloads.proofs.Firsts.{keep-keep, keep-every, IsFirst, none-passes, first-is}
 use Rattle.overloads.specs.Demand2.{takesFrom, permits, passes}
 use Rattle.overloads.proofs.Narrowing.{Some, Narrows, narrow-narrows}

@@ -6,7 +6,7 @@ use Prim.Native.Nat.{_-_, _^_, _≤_, _<_}
 use native.Mathlib.Omega.{arith}
 use lib.ListN.{length, replicate, length-map}
 use lib.Seq.{take-at}
-use Rattle.domain.specs.Mask.{select, padded}
+use Rattle.scalars.specs.Mask.{select, padded}
 use Rattle.rules.specs.Signature.{Signature}
 use Rattle.overloads.specs.Choice.{number}
 use Rattle.rules.specs.Rule.{blankRule, signatureOf, ruleOf}

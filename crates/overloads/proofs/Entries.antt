@@ -5,10 +5,10 @@ use mathlib.Core.List.{List, [], _∷_, map}
 use Prim.Native.Nat.{ℕ, zero, suc, _+_, _*_, _/_, _<_}
 use native.Mathlib.Nat.{add-zero, zero-add, add-suc, suc-add, le-of-suc-le-suc, not-suc-le-zero}
 use lib.ListN.{length, getD}
-use Rattle.domain.specs.Mask.{consIf, both, odd, digit, select, sift, filter}
+use Rattle.scalars.specs.Mask.{consIf, both, odd, digit, select, sift, filter}
 use Rattle.rules.specs.Signature.{Signature}
 use Rattle.overloads.specs.Choice.{Entry, number, keep}
-use Rattle.domain.proofs.Sifts.{select-sift}
+use Rattle.scalars.proofs.Sifts.{select-sift}
 
 pub number-length : (i : ℕ) (rs : List Signature) → length (number i rs) ≡ length rs
 number-length i [] = refl

@@ -10,23 +10,23 @@ use lib.Dec.{leb}
 use lib.ListN.{length, take, replicate, length-map, length-replicate, length-append}
 use lib.Seq.{take-at}
 use borrow.Author.Tests.{le-leb, lt-leb}
-use Rattle.domain.specs.Mask.{choose, padded}
+use Rattle.scalars.specs.Mask.{choose, padded}
 use Rattle.rules.specs.Rule.{blankRule, ruleOf}
 use Rattle.rules.specs.Listing.{acceptedListing, refusedListing}
 use Rattle.rules.specs.Verdict.{onVerdict}
 use Rattle.overloads.specs.List.{acceptedList, refusedList}
-use Rattle.rules.specs.Regular.{codesOf, regularRules, regularVerdict, allConclude, listedRules, regularListing}
+use Rattle.regular.specs.Regular.{codesOf, regularRules, regularVerdict, allConclude, listedRules, regularListing}
 use Rattle.overloads.specs.Expansion.{listOf, expanded}
-use Rattle.domain.specs.declared.answer.CountAnswer.the-variants as count
-use Rattle.domain.specs.declared.answer.Verdict.{Verdict}
-use Rattle.domain.specs.declared.answer.Verdict.the-variants.{Accepted}
+use Rattle.scalars.specs.declared.answer.CountAnswer.the-variants as count
+use Rattle.scalars.specs.declared.answer.Verdict.{Verdict}
+use Rattle.scalars.specs.declared.answer.Verdict.the-variants.{Accepted}
 use Rattle.overloads.specs.declared.list.List.{List}
 use Rattle.rules.specs.declared.listing.Listing.{Listing}
-use Rattle.domain.specs.declared.refusal.Refusal.{Refusal}
-use Rattle.domain.specs.declared.refusal.Refusal.the-variants.{TooMany, NoConclusion}
-use Rattle.rules.specs.declared.regular.Regular.{Regular}
+use Rattle.scalars.specs.declared.refusal.Refusal.{Refusal}
+use Rattle.scalars.specs.declared.refusal.Refusal.the-variants.{TooMany, NoConclusion}
+use Rattle.regular.specs.declared.regular.Regular.{Regular}
 use Rattle.rules.specs.declared.rule.Rule.{Rule}
-use Rattle.rules.proofs.Listings.{rules-count}
+use Rattle.regular.proofs.Listings.{rules-count}
 
 -- fewer blanks behind the same rules
 module _ {A : Type 0} where

@@ -12,20 +12,20 @@ use lib.ListN.{length, replicate, length-map}
 use lib.Pow.{pow-pos}
 use lib.Seq.{take-at, take-all}
 use borrow.Author.Tests.{lt-ltb, le-leb, leb-true}
-use Rattle.domain.specs.Mask.{choose, both, every, select, padded}
+use Rattle.scalars.specs.Mask.{choose, both, every, select, padded}
 use Rattle.rules.specs.Signature.{Signature}
 use Rattle.rules.specs.Rule.{blankRule, signatureOf, ruleOf, knownRule, shortRule, short?, typed?}
 use Rattle.overloads.specs.List.{mostRules, held, signatures, listing, cleanList, acceptedList, refusedList, verdictOf, kept, listStep, Valid}
 use Rattle.rules.specs.Verdict.{onVerdict}
 use Rattle.overloads.specs.Expansion.{listOf}
-use Rattle.domain.specs.declared.answer.Verdict.{Verdict}
-use Rattle.domain.specs.declared.answer.Verdict.the-variants.{Accepted, Refused}
+use Rattle.scalars.specs.declared.answer.Verdict.{Verdict}
+use Rattle.scalars.specs.declared.answer.Verdict.the-variants.{Accepted, Refused}
 use Rattle.overloads.specs.declared.list.List.{List}
-use Rattle.domain.specs.declared.refusal.Refusal.the-variants.{TooMany, Unknown}
+use Rattle.scalars.specs.declared.refusal.Refusal.the-variants.{TooMany, Unknown}
 use Rattle.rules.specs.declared.rule.Keep.{Keep}
-use Rattle.domain.proofs.Meets.{select-ones}
+use Rattle.scalars.proofs.Meets.{select-ones}
 use Rattle.rules.proofs.Records.{record-says}
-use Rattle.domain.proofs.Filters.{both-left, both-right, both-true}
+use Rattle.scalars.proofs.Filters.{both-left, both-right, both-true}
 use Rattle.overloads.proofs.Steps.{kept-valid}
 
 -- ---- what the List of these rules holds

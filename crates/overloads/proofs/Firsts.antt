@@ -8,11 +8,11 @@ use mathlib.Core.Option.{some}
 use Prim.Native.Nat.{ℕ, zero, suc, _+_, _<_}
 use native.Mathlib.Omega.{arith}
 use lib.ListN.{getElem?}
-use Rattle.domain.specs.Mask.{both, consIf, filter}
+use Rattle.scalars.specs.Mask.{both, consIf, filter}
 use Rattle.rules.specs.Signature.{Signature}
 use Rattle.overloads.specs.Choice.{Entry, number, keep, chosen, first}
 use Rattle.overloads.proofs.Entries.{keep-filter}
-use Rattle.domain.proofs.Filters.{filter-both}
+use Rattle.scalars.proofs.Filters.{filter-both}
 
 pub keep-keep : (p q : Signature → Bool) (s : List Entry) → keep q (keep p s) ≡ keep (λ (r : Signature). both (p r) (q r)) s
 keep-keep p q s =

@@ -6,11 +6,11 @@ use mathlib.Core.List.{List}
 use Prim.Native.Nat.{ℕ, _≤_, _<_}
 use native.Mathlib.Omega.{arith}
 use lib.ListN.{length}
-use Rattle.domain.specs.Mask.{every, bits}
+use Rattle.scalars.specs.Mask.{every, bits}
 use Rattle.rules.specs.Signature.{Signature}
 use Rattle.rules.specs.Rule.{short?}
 use Rattle.overloads.specs.List.{signatures, Valid}
-use Rattle.rules.specs.Regular.{regularRules, codesOf, allConclude, concludedOf, emptySet?}
+use Rattle.regular.specs.Regular.{regularRules, codesOf, allConclude, concludedOf, emptySet?}
 use Rattle.domain.specs.TypeCode.{predeclaredCode}
 use Rattle.functions.specs.Sequences.{floatScalars, concreteFloatScalars, concreteIntScalars, vectorSizes, vector, matrix, scalarOrVecn}
 use Rattle.functions.specs.Functions.{functionCount, functionSets, functionSetOf, listedRules, rulesIn, listingOf}
@@ -21,7 +21,7 @@ use Rattle.functions.specs.declared.mathfunction.FunctionSet.{FunctionSet}
 use Rattle.functions.specs.declared.mathfunction.FunctionSet.the-variants as set
 use Rattle.functions.specs.declared.mathfunction.Listed.{Listed}
 use Rattle.functions.specs.declared.mathfunction.Listed.the-variants.{Ldexp, Outer, Refract, Mix, Transpose, ExtractBits, InsertBits}
-use Rattle.rules.specs.declared.regular.Regular.{Regular}
+use Rattle.regular.specs.declared.regular.Regular.{Regular}
 use Rattle.overloads.proofs.Callables.{callable?, callable-of}
 use Rattle.functions.proofs.Places.{few-listed}
 use Rattle.functions.proofs.Database.{each-number, few-rules, some-rules}

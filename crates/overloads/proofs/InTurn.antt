@@ -4,14 +4,14 @@
 use mathlib.Core.Path.{_≡_, refl, sym, ap, _∙_}
 use mathlib.Core.Bool.{true}
 use mathlib.Core.List.{List, [], _∷_}
-use Rattle.domain.specs.Mask.{both, filter, every}
+use Rattle.scalars.specs.Mask.{both, filter, every}
 use Rattle.rules.specs.Signature.{Signature}
 use Rattle.rules.specs.Rule.{passes}
 use Rattle.overloads.specs.List.{listing, kept}
 use Rattle.overloads.specs.Agreement.{inTurn}
 use Rattle.overloads.specs.declared.list.List as declared
 use Rattle.rules.specs.declared.rule.Keep.{Keep}
-use Rattle.domain.proofs.Filters.{filter-both, filter-comm, filter-twice, filter-all}
+use Rattle.scalars.proofs.Filters.{filter-both, filter-comm, filter-twice, filter-all}
 use Rattle.overloads.proofs.Steps.{listing-kept}
 
 -- what each step keeps, steps in turn keep

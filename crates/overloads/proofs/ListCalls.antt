@@ -8,32 +8,32 @@ use Prim.Native.Nat.{ℕ, _+_, _^_, _≤_, _<_, zero-le, suc-le-suc}
 use native.Mathlib.Omega.{arith}
 use lib.Count.{trailingZeros}
 use lib.ListN.{length, getD, drop}
-use Rattle.domain.specs.Mask.{every}
+use Rattle.scalars.specs.Mask.{every}
 use Rattle.rules.specs.Signature.{Signature}
 use Rattle.overloads.specs.Choice.{number, left, emptied, narrow, first, resolve}
 use Rattle.rules.specs.Verdict.{longest, countOf}
 use Rattle.overloads.specs.List.{mostRules, acceptedList, signatures, listing, entries, cleanList, kept, Valid}
-use Rattle.rules.specs.Regular.{signatureFor, regularRules}
+use Rattle.regular.specs.Regular.{signatureFor, regularRules}
 use Rattle.overloads.specs.Expansion.{listOf, expanded}
 use Rattle.rules.specs.Rule.{short?}
 use Rattle.overloads.specs.Agreement.{Expands}
 use Rattle.overloads.specs.Call.{answered, membersOf, maskAnswer, survivorsAfter, survivorsOf, Callable, Full}
-use Rattle.domain.specs.declared.answer.CountAnswer.the-variants as count
+use Rattle.scalars.specs.declared.answer.CountAnswer.the-variants as count
 use Rattle.overloads.specs.declared.call.CallAnswer.the-variants as call
 use Rattle.overloads.specs.declared.call.Survivors.the-variants as survivors
 use Rattle.overloads.specs.declared.list.List.{List}
 use Rattle.overloads.specs.declared.list.ListAnswer.{ListAnswer}
-use Rattle.domain.specs.declared.refusal.Refusal.{Refusal}
-use Rattle.domain.specs.declared.refusal.Refusal.the-variants.{WrongCount}
-use Rattle.rules.specs.declared.regular.Regular.{Regular}
+use Rattle.scalars.specs.declared.refusal.Refusal.{Refusal}
+use Rattle.scalars.specs.declared.refusal.Refusal.the-variants.{WrongCount}
+use Rattle.regular.specs.declared.regular.Regular.{Regular}
 use Rattle.rules.specs.declared.rule.Rule.{Rule}
 use Rattle.rules.specs.declared.rule.Keep.the-variants.{Argument, Concrete}
 use Rattle.overloads.proofs.Lists.{entries-none, entries-first, member, counted, valid-length}
 use Rattle.rules.proofs.Records.{zeroRule}
 use Rattle.overloads.proofs.Steps.{entries-kept, kept-valid}
 use Rattle.overloads.proofs.Expansions.{signatures-of, valid-of}
-use Rattle.rules.proofs.Regulars.{codes-first}
-use Rattle.rules.proofs.RegularRules.{rules-short}
+use Rattle.regular.proofs.Regulars.{codes-first}
+use Rattle.regular.proofs.RegularRules.{rules-short}
 use Rattle.overloads.proofs.Agreement.{expands}
 use Rattle.overloads.proofs.Narrowing.{Some}
 use Rattle.overloads.proofs.Resolving.{narrow-out, narrow-on, narrow-end, count-wrong, count-right}

@@ -10,19 +10,19 @@ use lib.ListN.{length}
 use lib.Pow.{pow-mono}
 use lib.Seq.{take-all}
 use borrow.Author.Tests.{eqb-true, eqb-false}
-use Rattle.domain.specs.Mask.{choose, consIf, odd, select, countFrom, bits, maskOf}
+use Rattle.scalars.specs.Mask.{choose, consIf, odd, select, countFrom, bits, maskOf}
 use Rattle.rules.specs.Signature.{Signature}
 use Rattle.overloads.specs.Choice.{Entry, number, chosen, first}
 use Rattle.overloads.specs.List.{signatures, listing, entries, Valid}
 use Rattle.overloads.specs.Call.{membersOf, maskAnswer, Full}
 use Rattle.overloads.specs.declared.call.Survivors.the-variants as survivors
 use Rattle.overloads.specs.declared.list.List.{List}
-use Rattle.domain.specs.declared.refusal.Refusal.the-variants.{EmptySet}
-use Rattle.domain.proofs.Bits.{mask-bits}
+use Rattle.scalars.specs.declared.refusal.Refusal.the-variants.{EmptySet}
+use Rattle.scalars.proofs.Bits.{mask-bits}
 use Rattle.overloads.proofs.Entries.{number-length}
 use Rattle.overloads.proofs.Lists.{valid-length, entries-none, entries-first}
-use Rattle.domain.proofs.Masks.{select-none}
-use Rattle.domain.proofs.Meets.{select-ones}
+use Rattle.scalars.proofs.Masks.{select-none}
+use Rattle.scalars.proofs.Meets.{select-ones}
 use Rattle.overloads.proofs.Narrowing.{Some}
 
 -- all members: every rule with its index

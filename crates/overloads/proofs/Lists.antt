@@ -8,7 +8,7 @@ use native.Mathlib.Omega.{arith}
 use lib.Count.{trailingZeros}
 use lib.ListN.{length, getD, length-append, length-take, length-map, length-replicate, List·getD-append, List·getD-map}
 use lib.Seq.{getD-take}
-use Rattle.domain.specs.Mask.{select, sift}
+use Rattle.scalars.specs.Mask.{select, sift}
 use Rattle.rules.specs.Signature.{Signature}
 use Rattle.overloads.specs.Choice.{Entry, number}
 use Rattle.rules.specs.Verdict.{longest, countOf, emptyOf}
@@ -16,10 +16,10 @@ use Rattle.rules.specs.Rule.{argumentsOf, signatureOf, ruleOf}
 use Rattle.overloads.specs.List.{held, signatures, listing, entries, cleanList, preferredOf, Valid}
 use Rattle.overloads.specs.declared.list.List.{List}
 use Rattle.overloads.specs.declared.list.ChosenAnswer.the-variants as chosen
-use Rattle.domain.specs.declared.answer.CountAnswer.the-variants as count
-use Rattle.domain.specs.declared.answer.Test.the-variants as test
+use Rattle.scalars.specs.declared.answer.CountAnswer.the-variants as count
+use Rattle.scalars.specs.declared.answer.Test.the-variants as test
 use Rattle.rules.specs.declared.rule.Rule.{Rule}
-use Rattle.domain.proofs.Masks.{turn, gain, select-length, select-none}
+use Rattle.scalars.proofs.Masks.{turn, gain, select-length, select-none}
 use Rattle.rules.proofs.Records.{zeroRule, clean-count}
 use Rattle.functions.proofs.Prefixes.{map-at}
 use Rattle.overloads.proofs.Entries.{number-length, number-at, entry-rules}

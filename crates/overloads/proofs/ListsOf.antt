@@ -8,7 +8,7 @@ use Prim.Native.Nat.{ℕ, _-_, _^_, _≤_}
 use lib.Dec.{leb}
 use lib.ListN.{length}
 use borrow.Author.Tests.{le-leb}
-use Rattle.domain.specs.Mask.{choose, padded}
+use Rattle.scalars.specs.Mask.{choose, padded}
 use Rattle.rules.specs.Signature.{Signature}
 use Rattle.rules.specs.Rule.{blankRule, ruleOf}
 use Rattle.overloads.specs.Expansion.{listOf}

@@ -11,14 +11,14 @@ use lib.Dec.{ltb}
 use lib.ListN.{length}
 use lib.Pow.{pow-pos}
 use borrow.Author.Tests.{ltb-true}
-use Rattle.domain.specs.Mask.{choose, both, consIf, odd, filter, every, select, countFrom, upTo, bits}
+use Rattle.scalars.specs.Mask.{choose, both, consIf, odd, filter, every, select, countFrom, upTo, bits}
 use Rattle.rules.specs.Signature.{Signature}
 use Rattle.overloads.specs.Choice.{number, keep, chosen, first}
-use Rattle.rules.specs.Regular.{pairs}
+use Rattle.regular.specs.Regular.{pairs}
 use Rattle.overloads.specs.Call.{rank}
-use Rattle.domain.proofs.Masks.{select-mod, bit-is}
-use Rattle.domain.proofs.Bits.{bits-count, bits-length, upTo-length}
-use Rattle.domain.proofs.Filters.{both-left, both-right}
+use Rattle.scalars.proofs.Masks.{select-mod, bit-is}
+use Rattle.scalars.proofs.Bits.{bits-count, bits-length, upTo-length}
+use Rattle.scalars.proofs.Filters.{both-left, both-right}
 
 -- ---- ranks by counting ones
 

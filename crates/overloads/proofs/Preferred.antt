@@ -8,30 +8,30 @@ use native.Mathlib.Omega.{arith}
 use lib.Dec.{eqb, ltb}
 use lib.ListN.{length}
 use borrow.Author.Tests.{eqb-true, ne-eqb}
-use Rattle.domain.specs.Mask.{choose, both, consIf, odd, filter, every, select, countFrom, bits}
-use Rattle.domain.specs.Domain.{value?, constructorPart}
+use Rattle.scalars.specs.Mask.{choose, both, consIf, odd, filter, every, select, countFrom, bits}
+use Rattle.scalars.specs.Domain.{value?, constructorPart}
 use Rattle.rules.specs.Signature.{Signature}
 use Rattle.overloads.specs.Choice.{Entry}
 use Rattle.rules.specs.Rule.{ruleOf}
 use Rattle.rules.specs.Verdict.{onVerdict}
 use Rattle.overloads.specs.List.{listing, entries, preferredOf, verdictOf, listPreferred}
-use Rattle.rules.specs.Regular.{Known, pairs, codesOf, signatureFor, regularRules, emptyRegular, narrowed, concreteSet, concludedOf, concluded?, ruleFrom, ruleFor, allConclude, preferredAmong, regularPreferred}
+use Rattle.regular.specs.Regular.{Known, pairs, codesOf, signatureFor, regularRules, emptyRegular, narrowed, concreteSet, concludedOf, concluded?, ruleFrom, ruleFor, allConclude, preferredAmong, regularPreferred}
 use Rattle.overloads.specs.Agreement.{stepRegular}
-use Rattle.domain.specs.declared.answer.Verdict.{Verdict}
-use Rattle.domain.specs.declared.answer.Verdict.the-variants.{Accepted}
+use Rattle.scalars.specs.declared.answer.Verdict.{Verdict}
+use Rattle.scalars.specs.declared.answer.Verdict.the-variants.{Accepted}
 use Rattle.overloads.specs.declared.list.List as declared
 use Rattle.overloads.specs.declared.list.ChosenAnswer.the-variants as chosen
-use Rattle.rules.specs.declared.regular.Regular.{Regular}
+use Rattle.regular.specs.declared.regular.Regular.{Regular}
 use Rattle.rules.specs.declared.rule.Keep.{Keep}
 use Rattle.rules.specs.declared.rule.Keep.the-variants.{Argument, Concrete}
 use Rattle.rules.specs.declared.rule.RuleAnswer.the-variants as rule
 use Rattle.domain.specs.declared.type_code.CodeAnswer.{CodeAnswer}
 use Rattle.domain.specs.declared.type_code.CodeAnswer.the-variants as code
-use Rattle.domain.proofs.Bits.{bits-none}
-use Rattle.domain.proofs.Filters.{both-left, filter-none}
+use Rattle.scalars.proofs.Bits.{bits-none}
+use Rattle.scalars.proofs.Filters.{both-left, filter-none}
 use Rattle.overloads.proofs.Lists.{entries-rules}
-use Rattle.rules.proofs.RegularCodes.{shapes, narrowed-constructors}
-use Rattle.rules.proofs.Regulars.{known-accepted}
+use Rattle.regular.proofs.RegularCodes.{shapes, narrowed-constructors}
+use Rattle.regular.proofs.Regulars.{known-accepted}
 
 -- ---- at most one constructor
 

@@ -6,16 +6,16 @@ use mathlib.Core.List.{List, map}
 use Prim.Native.Nat.{ℕ, _+_, _≤_, _<_, zero-le}
 use native.Mathlib.Omega.{arith}
 use lib.ListN.{length, getD, drop}
-use Rattle.domain.specs.Mask.{bits}
+use Rattle.scalars.specs.Mask.{bits}
 use Rattle.overloads.specs.Choice.{Entry, number, Narrowed, left, emptied, narrow, wrongCount, afterOperands, resolve}
 use Rattle.rules.specs.Verdict.{longest}
-use Rattle.rules.specs.Regular.{Known, signatureFor, regularRules, emptySet?, narrowed, concreteSet}
+use Rattle.regular.specs.Regular.{Known, signatureFor, regularRules, emptySet?, narrowed, concreteSet}
 use Rattle.overloads.specs.Call.{answered, Callable, preferredIn}
 use Rattle.overloads.specs.declared.call.CallAnswer.the-variants as call
-use Rattle.domain.specs.declared.refusal.Refusal.the-variants.{WrongCount}
-use Rattle.rules.specs.declared.regular.Regular.{Regular}
-use Rattle.rules.proofs.Regulars.{codes-first, longest-arity, lowestCode}
-use Rattle.rules.proofs.RegularSteps.{narrowed-known, concrete-known}
+use Rattle.scalars.specs.declared.refusal.Refusal.the-variants.{WrongCount}
+use Rattle.regular.specs.declared.regular.Regular.{Regular}
+use Rattle.regular.proofs.Regulars.{codes-first, longest-arity, lowestCode}
+use Rattle.regular.proofs.RegularSteps.{narrowed-known, concrete-known}
 use Rattle.overloads.proofs.Resolving.{narrow-out, narrow-on, narrow-end, count-wrong, count-right}
 use Rattle.overloads.proofs.RegularResolving.{Holds, holds-all, holds-argument, holds-concrete, holds-preferred, holds-none, holds-some}
 

@@ -10,27 +10,27 @@ use lib.Count.{trailingZeros}
 use lib.Dec.{eqb, ltb, lit≤}
 use lib.ListN.{length}
 use borrow.Author.Tests.{eqb-true}
-use Rattle.domain.specs.Mask.{both, either, consIf, filter, every, bits}
-use Rattle.domain.specs.Domain.{scalars, constructors, abstract?}
+use Rattle.scalars.specs.Mask.{both, either, consIf, filter, every, bits}
+use Rattle.scalars.specs.Domain.{scalars, constructors, abstract?}
 use Rattle.rules.specs.Signature.{Signature, takes, concrete}
 use Rattle.overloads.specs.Choice.{Entry, number, keep, chosen, first}
 use Rattle.rules.specs.Rule.{ruleOf}
-use Rattle.rules.specs.Regular.{Known, pairs, codesOf, signatureFor, regularRules, emptySet?, narrowed, concreteSet, concludes, allConclude, concludedOf, concluded?, ruleFrom, ruleFor, regularRule}
+use Rattle.regular.specs.Regular.{Known, pairs, codesOf, signatureFor, regularRules, emptySet?, narrowed, concreteSet, concludes, allConclude, concludedOf, concluded?, ruleFrom, ruleFor, regularRule}
 use Rattle.overloads.specs.Call.{answered, Callable, placeIn, placed, preferredIn}
 use Rattle.overloads.specs.declared.call.CallAnswer.the-variants as call
-use Rattle.domain.specs.declared.refusal.Refusal.the-variants.{EmptySet}
-use Rattle.rules.specs.declared.regular.Regular.{Regular}
+use Rattle.scalars.specs.declared.refusal.Refusal.the-variants.{EmptySet}
+use Rattle.regular.specs.declared.regular.Regular.{Regular}
 use Rattle.rules.specs.declared.rule.RuleAnswer.the-variants as rule
 use Rattle.domain.specs.declared.type_code.CodeAnswer.{CodeAnswer}
 use Rattle.domain.specs.declared.type_code.CodeAnswer.the-variants as code
-use Rattle.domain.proofs.Bits.{bits-first, bits-none}
-use Rattle.domain.proofs.Filters.{both-left, every-filter, filter-both, filter-map, filter-all}
+use Rattle.scalars.proofs.Bits.{bits-first, bits-none}
+use Rattle.scalars.proofs.Filters.{both-left, every-filter, filter-both, filter-map, filter-all}
 use Rattle.overloads.proofs.Firsts.{keep-keep, keep-every}
 use Rattle.overloads.proofs.Narrowing.{Some}
 use Rattle.overloads.proofs.Positions.{rank-first, pairs-first}
-use Rattle.rules.proofs.RegularCodes.{shapes, numbers, reaches-pair, concrete-pair, narrowed-constructors, narrowed-scalars, codes-filter, every-select, bits-meet}
-use Rattle.rules.proofs.RegularSteps.{takes-each, concrete-each}
-use Rattle.rules.proofs.Regulars.{some-first, pairs-none, codes-none, known-rule, lowest-known}
+use Rattle.regular.proofs.RegularCodes.{shapes, numbers, reaches-pair, concrete-pair, narrowed-constructors, narrowed-scalars, codes-filter, every-select, bits-meet}
+use Rattle.regular.proofs.RegularSteps.{takes-each, concrete-each}
+use Rattle.regular.proofs.Regulars.{some-first, pairs-none, codes-none, known-rule, lowest-known}
 
 -- the entries left are those that pass a test which asks the constructor and the scalar apart, and the masks hold what passes either
 pub record Holds (set left : Regular) (s : List Entry) : Type 0 where

@@ -10,7 +10,7 @@ use native.Mathlib.Omega.{arith}
 use lib.Dec.{ltb}
 use lib.ListN.{length, getD, drop, drop-of-length-le}
 use borrow.Author.Tests.{lt-ltb, le-ltb, ltb-false}
-use Rattle.domain.specs.Mask.{choose, either}
+use Rattle.scalars.specs.Mask.{choose, either}
 use Rattle.rules.specs.Signature.{Signature, takes}
 use Rattle.overloads.specs.Choice.{Entry, keep, left, emptied, unlessEmpty, narrow, chosen, first}
 use Rattle.rules.specs.Verdict.{longest}

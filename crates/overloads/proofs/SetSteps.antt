@@ -9,26 +9,26 @@ use Prim.Native.Nat.{ℕ, _≤_}
 use lib.Bits.{bitAnd, and-zero-l}
 use lib.Dec.{ltb}
 use borrow.Author.Tests.{ltb-true, ltb-false}
-use Rattle.domain.specs.Mask.{choose, both, filter, every, bits}
-use Rattle.domain.specs.Domain.{isAbstract}
+use Rattle.scalars.specs.Mask.{choose, both, filter, every, bits}
+use Rattle.scalars.specs.Domain.{isAbstract}
 use Rattle.rules.specs.Signature.{reaches}
 use Rattle.domain.specs.Constructor.{singletonOfCode}
 use Rattle.rules.specs.Rule.{passes}
-use Rattle.rules.specs.Regular.{Known, pairs, codesOf, signatureFor, regularRules, emptyRegular, narrowed, concreteSet, concludedOf, concluded?, allConclude, regularArg, regularConcrete}
+use Rattle.regular.specs.Regular.{Known, pairs, codesOf, signatureFor, regularRules, emptyRegular, narrowed, concreteSet, concludedOf, concluded?, allConclude, regularArg, regularConcrete}
 use Rattle.overloads.specs.Agreement.{stepRegular, askRegular, knownStep}
 use Rattle.rules.specs.Verdict.{onVerdict}
-use Rattle.domain.specs.declared.answer.Verdict.{Verdict}
-use Rattle.rules.specs.declared.regular.ConclusionRule.{ConclusionRule}
-use Rattle.rules.specs.declared.regular.Regular.{Regular}
-use Rattle.rules.specs.declared.regular.RegularAnswer.the-variants as regular
+use Rattle.scalars.specs.declared.answer.Verdict.{Verdict}
+use Rattle.regular.specs.declared.regular.ConclusionRule.{ConclusionRule}
+use Rattle.regular.specs.declared.regular.Regular.{Regular}
+use Rattle.regular.specs.declared.regular.RegularAnswer.the-variants as regular
 use Rattle.rules.specs.declared.rule.Keep.{Keep}
 use Rattle.rules.specs.declared.rule.Keep.the-variants.{Argument, Concrete}
-use Rattle.domain.proofs.Bits.{bits-none}
-use Rattle.domain.proofs.Filters.{every-filter}
+use Rattle.scalars.proofs.Bits.{bits-none}
+use Rattle.scalars.proofs.Filters.{every-filter}
 use Rattle.overloads.proofs.InTurn.{listed-both, listed-comm, listed-twice, listed-all}
-use Rattle.rules.proofs.Regulars.{known-accepted}
-use Rattle.rules.proofs.RegularCodes.{narrowed-codes, concrete-codes}
-use Rattle.rules.proofs.RegularSteps.{narrowed-rules, past-rules, concrete-rules, narrowed-known, concrete-known, empty-known}
+use Rattle.regular.proofs.Regulars.{known-accepted}
+use Rattle.regular.proofs.RegularCodes.{narrowed-codes, concrete-codes}
+use Rattle.regular.proofs.RegularSteps.{narrowed-rules, past-rules, concrete-rules, narrowed-known, concrete-known, empty-known}
 
 -- rules have an argument, or there is no constructor and so no rule: an index at or above the arity leaves a set of the second kind
 abbrev pub Lasting : Regular → Type 0

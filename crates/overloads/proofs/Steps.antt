@@ -3,14 +3,14 @@
 use mathlib.Core.Path.{_≡_, ap}
 use Prim.Native.Nat.{ℕ}
 use native.Mathlib.Nat.{lt-of-le-of-lt}
-use Rattle.domain.specs.Mask.{filter}
+use Rattle.scalars.specs.Mask.{filter}
 use Rattle.overloads.specs.Choice.{keep}
 use Rattle.rules.specs.Rule.{passes}
 use Rattle.overloads.specs.List.{signatures, listing, entries, cleanList, kept, Valid}
 use Rattle.overloads.specs.declared.list.List.{List}
 use Rattle.rules.specs.declared.rule.Keep.{Keep}
-use Rattle.domain.proofs.Masks.{sift-le}
-use Rattle.domain.proofs.Sifts.{select-sift, sift-comm, sift-twice}
+use Rattle.scalars.proofs.Masks.{sift-le}
+use Rattle.scalars.proofs.Sifts.{select-sift, sift-comm, sift-twice}
 use Rattle.overloads.proofs.Entries.{select-keep}
 
 pub listing-kept : (k : Keep) (l : List) → listing (kept k l) ≡ filter (passes k) (listing l)

@@ -6,17 +6,17 @@ use native.Mathlib.Omega.{arith}
 use lib.Dec.{leb, ltb}
 use lib.ListN.{length}
 use borrow.Author.Tests.{ltb-true, leb-true}
-use Rattle.domain.specs.Mask.{choose, both, every}
+use Rattle.scalars.specs.Mask.{choose, both, every}
 use Rattle.rules.specs.Rule.{knownRule, shortRule}
 use Rattle.overloads.specs.List.{held, listing, entries, cleanList, acceptedList, refusedList, verdictOf, checkedList, Valid}
 use Rattle.rules.specs.Verdict.{onVerdict, emptyOf}
-use Rattle.domain.specs.declared.answer.Verdict.{Verdict}
-use Rattle.domain.specs.declared.answer.Verdict.the-variants.{Accepted, Refused}
-use Rattle.domain.specs.declared.answer.Test.the-variants as test
+use Rattle.scalars.specs.declared.answer.Verdict.{Verdict}
+use Rattle.scalars.specs.declared.answer.Verdict.the-variants.{Accepted, Refused}
+use Rattle.scalars.specs.declared.answer.Test.the-variants as test
 use Rattle.overloads.specs.declared.list.List.{List}
 use Rattle.overloads.specs.declared.list.ListAnswer.{ListAnswer}
-use Rattle.domain.specs.declared.refusal.Refusal.{Refusal}
-use Rattle.domain.specs.declared.refusal.Refusal.the-variants.{TooMany, Unknown}
+use Rattle.scalars.specs.declared.refusal.Refusal.{Refusal}
+use Rattle.scalars.specs.declared.refusal.Refusal.the-variants.{TooMany, Unknown}
 use Rattle.overloads.proofs.Lists.{listing-some}
 use Rattle.overloads.proofs.Cleans.{clean-listing, clean-entries, clean-valid}
 

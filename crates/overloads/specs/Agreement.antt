@@ -8,19 +8,19 @@ use mathlib.Core.List.{[], _∷_}
 use Prim.Native.Nat.{_≤_}
 use lib.Dec.{ltb}
 use lib.ListN.{length}
-use Rattle.domain.specs.Mask.{choose}
-use Rattle.domain.specs.Domain.{known?}
+use Rattle.scalars.specs.Mask.{choose}
+use Rattle.scalars.specs.Domain.{known?}
 use Rattle.rules.specs.Signature.{Signature}
 use Rattle.overloads.specs.List.{mostRules, listing, acceptedList, refusedList, listStep, listArg, listPreferred}
 use Rattle.rules.specs.Verdict.{onVerdict}
-use Rattle.rules.specs.Regular.{Known, regularRules, allConclude, emptyRegular, narrowed, concreteSet, regularArg, regularConcrete, regularPreferred}
+use Rattle.regular.specs.Regular.{Known, regularRules, allConclude, emptyRegular, narrowed, concreteSet, regularArg, regularConcrete, regularPreferred}
 use Rattle.overloads.specs.declared.list.Chosen.{Chosen}
 use Rattle.overloads.specs.declared.list.ChosenAnswer.the-variants as chosen
 use Rattle.overloads.specs.declared.list.List.{List}
 use Rattle.overloads.specs.declared.list.ListAnswer.{ListAnswer}
-use Rattle.rules.specs.declared.regular.Regular.{Regular}
-use Rattle.rules.specs.declared.regular.RegularAnswer.{RegularAnswer}
-use Rattle.rules.specs.declared.regular.RegularAnswer.the-variants as regular
+use Rattle.regular.specs.declared.regular.Regular.{Regular}
+use Rattle.regular.specs.declared.regular.RegularAnswer.{RegularAnswer}
+use Rattle.regular.specs.declared.regular.RegularAnswer.the-variants as regular
 use Rattle.rules.specs.declared.rule.Keep.{Keep}
 use Rattle.rules.specs.declared.rule.Keep.the-variants.{Argument, Concrete}
 use Rattle.rules.specs.declared.rule.RuleAnswer.the-variants as rule

@@ -8,20 +8,20 @@ use mathlib.Core.List.{[], _∷_, map}
 use Prim.Native.Nat.{ℕ, _+_, _-_, _*_, _^_, _≤_, _<_}
 use lib.Dec.{eqb, ltb}
 use lib.ListN.{length}
-use Rattle.domain.specs.Mask.{choose, either, bits, maskOf}
-use Rattle.domain.specs.Domain.{firstUnknown}
+use Rattle.scalars.specs.Mask.{choose, either, bits, maskOf}
+use Rattle.scalars.specs.Domain.{firstUnknown}
 use Rattle.rules.specs.Signature.{Signature}
 use Rattle.overloads.specs.Choice.{Entry, number, leastCount, mostCount, Narrowed, left, emptied, narrow, Choice, chosen, wrongCount, noneAfter, noneConcrete, concreteStep, resolve}
 use Rattle.rules.specs.Rule.{ruleOf}
 use Rattle.overloads.specs.List.{Valid}
-use Rattle.rules.specs.Regular.{Known, emptySet?, allConclude, ruleFor}
+use Rattle.regular.specs.Regular.{Known, emptySet?, allConclude, ruleFor}
 use Rattle.overloads.specs.declared.call.CallAnswer.{CallAnswer}
 use Rattle.overloads.specs.declared.call.CallAnswer.the-variants as call
 use Rattle.overloads.specs.declared.call.Survivors.{Survivors}
 use Rattle.overloads.specs.declared.call.Survivors.the-variants as survivors
 use Rattle.overloads.specs.declared.list.List.{List}
-use Rattle.domain.specs.declared.refusal.Refusal.the-variants.{EmptySet, WrongCount, NoRuleLeft, Unknown}
-use Rattle.rules.specs.declared.regular.Regular.{Regular}
+use Rattle.scalars.specs.declared.refusal.Refusal.the-variants.{EmptySet, WrongCount, NoRuleLeft, Unknown}
+use Rattle.regular.specs.declared.regular.Regular.{Regular}
 use Rattle.rules.specs.declared.rule.RuleAnswer.{RuleAnswer}
 use Rattle.rules.specs.declared.rule.RuleAnswer.the-variants as rule
 

@@ -1,7 +1,7 @@
 -- The paper's number, place and values for the preferred rule of a List, for a call and for its survivors.
 use mathlib.Core.List.{[], _∷_}
-use Rattle.domain.specs.Paper.{Paper, accepted, refused}
-use Rattle.rules.specs.SetPaper.{ruleValues}
+use Rattle.scalars.specs.Paper.{Paper, accepted, refused}
+use Rattle.rules.specs.RulePaper.{ruleValues}
 use Rattle.overloads.specs.declared.list.ChosenAnswer.{ChosenAnswer}
 use Rattle.overloads.specs.declared.list.ChosenAnswer.the-variants as chosen
 use Rattle.overloads.specs.declared.call.CallAnswer.{CallAnswer}

@@ -4,7 +4,7 @@ use mathlib.Core.List.{List, [], _∷_}
 use Prim.Native.Nat.{ℕ, suc}
 use lib.Dec.{ltb}
 use lib.ListN.{length}
-use Rattle.domain.specs.Mask.{choose, either, consIf}
+use Rattle.scalars.specs.Mask.{choose, either, consIf}
 use Rattle.rules.specs.Signature.{Signature, takes, concrete}
 use Rattle.rules.specs.Verdict.{longest}
 

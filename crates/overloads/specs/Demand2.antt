@@ -11,8 +11,8 @@ use mathlib.Core.Path.{_≡_}
 use mathlib.Core.Bool.{Bool, true, false}
 use mathlib.Core.List.{List, [], _∷_}
 use Prim.Native.Nat.{ℕ, suc}
-use Rattle.domain.specs.Mask.{both, select}
-use Rattle.domain.specs.declared.refusal.Refusal.{Refusal}
+use Rattle.scalars.specs.Mask.{both, select}
+use Rattle.scalars.specs.declared.refusal.Refusal.{Refusal}
 use Rattle.rules.specs.Signature.{Signature, takes, concrete}
 use Rattle.overloads.specs.Choice.{number, keep, Choice, chosen, first, resolve}
 use Rattle.overloads.specs.Taking.{Taken, Says}

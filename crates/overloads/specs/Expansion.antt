@@ -4,16 +4,16 @@ use mathlib.Core.List.{map}
 use Prim.Native.Nat.{_-_, _^_}
 use lib.Dec.{leb}
 use lib.ListN.{length}
-use Rattle.domain.specs.Mask.{choose, padded}
+use Rattle.scalars.specs.Mask.{choose, padded}
 use Rattle.rules.specs.Signature.{Signature}
 use Rattle.rules.specs.Rule.{blankRule, ruleOf}
 use Rattle.overloads.specs.List.{mostRules, acceptedList, refusedList}
 use Rattle.rules.specs.Verdict.{onVerdict}
-use Rattle.rules.specs.Regular.{regularVerdict, regularRules, allConclude}
+use Rattle.regular.specs.Regular.{regularVerdict, regularRules, allConclude}
 use Rattle.overloads.specs.declared.list.List.{List}
 use Rattle.overloads.specs.declared.list.ListAnswer.{ListAnswer}
-use Rattle.domain.specs.declared.refusal.Refusal.the-variants.{TooMany, NoConclusion}
-use Rattle.rules.specs.declared.regular.Regular.{Regular}
+use Rattle.scalars.specs.declared.refusal.Refusal.the-variants.{TooMany, NoConclusion}
+use Rattle.regular.specs.declared.regular.Regular.{Regular}
 
 -- the List of these rules, in this order, all of them members
 unfoldable pub listOf : L.List Signature → List

@@ -5,27 +5,27 @@ use mathlib.Core.List.{[], _∷_, map}
 use Prim.Native.Nat.{ℕ, _-_, _^_, _≤_, _<_}
 use lib.Dec.{leb, ltb}
 use lib.ListN.{take, replicate}
-use Rattle.domain.specs.Mask.{choose, both, every, select, sift, padded}
-use Rattle.domain.specs.Domain.{known?}
+use Rattle.scalars.specs.Mask.{choose, both, every, select, sift, padded}
+use Rattle.scalars.specs.Domain.{known?}
 use Rattle.rules.specs.Signature.{Signature}
 use Rattle.overloads.specs.Choice.{Entry, number}
 use Rattle.rules.specs.Verdict.{onVerdict, emptyOf, countOf}
 use Rattle.rules.specs.Rule.{blankRule, signatureOf, ruleOf, knownRule, shortRule, passes}
 use Rattle.rules.specs.Listing.{acceptedListing, refusedListing, acceptedTypes, refusedTypes, typeAt, hasAt}
-use Rattle.domain.specs.declared.answer.Verdict.{Verdict}
-use Rattle.domain.specs.declared.answer.Verdict.the-variants as verdict
-use Rattle.domain.specs.declared.answer.Test.{Test}
-use Rattle.domain.specs.declared.answer.Test.the-variants as test
-use Rattle.domain.specs.declared.answer.CountAnswer.{CountAnswer}
-use Rattle.domain.specs.declared.answer.CountAnswer.the-variants as count
+use Rattle.scalars.specs.declared.answer.Verdict.{Verdict}
+use Rattle.scalars.specs.declared.answer.Verdict.the-variants as verdict
+use Rattle.scalars.specs.declared.answer.Test.{Test}
+use Rattle.scalars.specs.declared.answer.Test.the-variants as test
+use Rattle.scalars.specs.declared.answer.CountAnswer.{CountAnswer}
+use Rattle.scalars.specs.declared.answer.CountAnswer.the-variants as count
 use Rattle.rules.specs.declared.listing.Listing.{Listing}
 use Rattle.rules.specs.declared.listing.AllowedArgs.{AllowedArgs}
 use Rattle.overloads.specs.declared.list.List.{List}
 use Rattle.overloads.specs.declared.list.ListAnswer.{ListAnswer}
 use Rattle.overloads.specs.declared.list.ChosenAnswer.{ChosenAnswer}
 use Rattle.overloads.specs.declared.list.ChosenAnswer.the-variants as chosen
-use Rattle.domain.specs.declared.refusal.Refusal.{Refusal}
-use Rattle.domain.specs.declared.refusal.Refusal.the-variants.{EmptySet, TooMany, NoSuchArgument, Unknown}
+use Rattle.scalars.specs.declared.refusal.Refusal.{Refusal}
+use Rattle.scalars.specs.declared.refusal.Refusal.the-variants.{EmptySet, TooMany, NoSuchArgument, Unknown}
 use Rattle.rules.specs.declared.rule.Rule.{Rule}
 use Rattle.rules.specs.declared.rule.Keep.{Keep}
 use Rattle.rules.specs.declared.rule.Keep.the-variants.{Argument}

@@ -7,21 +7,21 @@
 ghost use mathlib.Core.Path.{_≡_};
 ghost use Prim.Native.Nat.{_≤_, _<_};
 ghost use lib.ListN.{length};
-ghost use Rattle.domain.specs.Mask.{bits};
+ghost use Rattle.scalars.specs.Mask.{bits};
 ghost use Rattle.overloads.specs.Choice.{narrow, number, resolve};
 ghost use Rattle.overloads.specs.List.{signatures};
-ghost use Rattle.rules.specs.Regular.{Known, regularRules};
+ghost use Rattle.regular.specs.Regular.{Known, regularRules};
 ghost use Rattle.overloads.specs.Call.{answered, survivorsOf, survivorsAfter, maskAnswer, Callable, Full, rank, placeIn, preferredIn};
 use crate::expansion::expand;
 use crate::list::Chosen;
 use crate::list::List;
 use crate::walks::filter;
 use crate::walks::longest;
-use domain::CountAnswer;
-use domain::Refusal;
+use regular::Regular;
 use rules::Keep;
-use rules::Regular;
 use rules::RuleAnswer;
+use scalars::CountAnswer;
+use scalars::Refusal;
 
 // The answer to a call: the chosen rule, with its index in the function's full listing.
 pub enum CallAnswer {

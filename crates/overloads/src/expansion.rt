@@ -9,11 +9,11 @@ use crate::list::MOST_RULES;
 use crate::list::accepted;
 use crate::list::len_to_full_mask;
 use crate::list::refused;
-use domain::CountAnswer;
-use domain::Refusal;
-use domain::Verdict;
-use rules::Regular;
+use regular::Regular;
 use rules::Rule;
+use scalars::CountAnswer;
+use scalars::Refusal;
+use scalars::Verdict;
 
 // The List of a Regular set's rules. Refused as the set is, then 3 for more than 63 rules, then 13 where one has no conclusion.
 pub fn expand(set: Regular) -> ListAnswer

@@ -11,11 +11,11 @@ use crate::call::call_regular;
 use crate::call::survivors_list;
 use crate::call::survivors_regular;
 use crate::function_list::list_of;
-use domain::Refusal;
 use domain::first_unknown;
 use functions::FUNCTION_COUNT;
 use functions::FunctionSet;
 use functions::function_set;
+use scalars::Refusal;
 
 // The rule that a call of the function with operands of these types means, with its index in the function's full listing. Refused 7 at
 // 0 for the function, at 1 + index for a type; 5 for the number of operands; 6 at 1 + index for the operand that leaves no rule; 1 where

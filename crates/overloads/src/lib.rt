@@ -1,11 +1,10 @@
-// Overload resolution: Lists of rules, sets of either kind, and single calls of the built-in functions. naga's
-// `src/proc/overloads/list.rs` and `any_overload_set.rs`, above the crates `rules` and `functions`.
+// Overload resolution: Lists of rules, and single calls of the built-in functions. naga's `src/proc/overloads/list.rs`, above the crates
+// `regular` and `functions`.
 //
-// Each file has the name of the Rust's. Beside them stand `walks`, the loops over a List's members; `expansion`, a Regular set as a
+// Beside `list` stand `walks`, the loops over a List's members; `expansion`, a Regular set as a
 // List; `function_list`, the List of a function; `call` and `function_call`, what the Rust's front end does with a set. Every public
 // function ends on every input and tests it itself.
 
-mod any_overload_set;
 mod call;
 mod expansion;
 mod function_call;
@@ -13,9 +12,6 @@ mod function_list;
 mod list;
 mod walks;
 
-pub use any_overload_set::AnyAnswer;
-pub use any_overload_set::AnyOverloadSet;
-pub use any_overload_set::SetKind;
 pub use call::CallAnswer;
 pub use call::Survivors;
 pub use expansion::expand;

@@ -7,14 +7,14 @@ ghost use Rattle.rules.specs.Verdict.{countOf};
 use crate::list::Chosen;
 use crate::list::ChosenAnswer;
 use crate::list::List;
-use domain::CountAnswer;
-use domain::Refusal;
 use rules::AllowedArgs;
 use rules::Keep;
 use rules::Listing;
 use rules::no_codes;
 use rules::no_rules;
 use rules::no_types;
+use scalars::CountAnswer;
+use scalars::Refusal;
 
 // The members that pass a test: one walk for every step.
 pub(crate) fn filter(list: List, keep: Keep) -> List

@@ -9,10 +9,10 @@ use crate::set_answers::accepted;
 use crate::set_answers::listing_agrees;
 use crate::set_answers::preferred_agrees;
 use crate::steps::stepped;
-use domain::Verdict;
-use overloads::AnyOverloadSet;
 use overloads::expand;
-use rules::Regular;
+use regular::Regular;
+use scalars::Verdict;
+use sets::AnyOverloadSet;
 
 // Whether the expansion answers as the record of its Regular set says. A record without one has nothing to compare, and agrees.
 pub fn agrees(record: &[u8]) -> bool {

@@ -4,8 +4,8 @@ use crate::records::wide;
 use crate::set_answers::allowed_agrees;
 use functions::FunctionSet;
 use functions::function_set;
-use overloads::AnyOverloadSet;
 use overloads::list_of;
+use sets::AnyOverloadSet;
 
 // Whether the types that the function's full set allows there are the stored ones.
 pub fn agrees(record: &[u8]) -> bool {

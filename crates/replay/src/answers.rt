@@ -1,6 +1,6 @@
 // What the stored answers have in common.
 
-use domain::Refusal;
+use scalars::Refusal;
 
 // No value, in a stored answer.
 pub const NONE: u8 = 255;

@@ -4,8 +4,8 @@ use crate::answers::is_refusal;
 use crate::hand_made::list_of;
 use crate::rule_records::RULE_BYTES;
 use crate::set_answers::listing_agrees;
-use domain::Verdict;
-use overloads::AnyOverloadSet;
+use scalars::Verdict;
+use sets::AnyOverloadSet;
 
 // Whether the rules are refused as stored, or taken, and listed as they stand there.
 pub fn agrees(record: &[u8]) -> bool {

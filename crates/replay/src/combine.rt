@@ -2,8 +2,8 @@
 
 use crate::answers::NONE;
 use domain::Combination;
-use domain::Scalar;
 use domain::automatic_conversion_combine;
+use scalars::Scalar;
 
 // Whether the combination is the stored one.
 pub fn agrees(record: &[u8]) -> bool {

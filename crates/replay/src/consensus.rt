@@ -4,9 +4,9 @@ use crate::answers::NONE;
 use crate::answers::is_refusal;
 use crate::records::wide;
 use domain::Base;
-use domain::Scalar;
-use domain::ScalarAnswer;
 use domain::automatic_conversion_consensus;
+use scalars::Scalar;
+use scalars::ScalarAnswer;
 
 // Whether the scalar, or the refusal, is the stored one.
 pub fn agrees(record: &[u8]) -> bool {

@@ -5,15 +5,15 @@ use crate::records::word;
 use crate::rule_records::RULE_BYTES;
 use crate::rule_records::rules_of;
 use domain::ConstructorSet;
-use domain::Refusal;
-use domain::ScalarSet;
-use domain::Verdict;
-use overloads::AnyAnswer;
-use overloads::AnyOverloadSet;
 use overloads::List;
 use overloads::ListAnswer;
-use rules::ConclusionRule;
-use rules::Regular;
+use regular::ConclusionRule;
+use regular::Regular;
+use scalars::Refusal;
+use scalars::ScalarSet;
+use scalars::Verdict;
+use sets::AnyAnswer;
+use sets::AnyOverloadSet;
 
 // The bytes of a Regular set.
 const REGULAR_BYTES: usize = 7;

@@ -6,10 +6,10 @@ use crate::calls;
 use crate::combine;
 use crate::consensus;
 use crate::convertible;
-use crate::expressions;
 use crate::handsets;
 use crate::named_sets;
 use crate::refused;
+use crate::typings;
 
 pub enum List {
     Combine,
@@ -37,6 +37,6 @@ pub fn agrees(list: List, record: &[u8]) -> bool {
         List::Calls => calls::agrees(record),
         List::Refused => refused::agrees(record),
         List::Allowed => allowed::agrees(record),
-        List::Expressions => expressions::agrees(record),
+        List::Expressions => typings::agrees(record),
     }
 }

@@ -1,7 +1,7 @@
 // Asks the libraries every question whose answer by the crate is stored, and counts the answers that differ.
 //
 // Each list of answers is a file of data/ and a file of src/ under the same name, which holds one public function, `agrees`: whether our
-// answer to a record's question is the stored one. The lists of expressions, `worksheets`, `room` and `limits`, share `expressions`.
+// answer to a record's question is the stored one. The lists of expressions, `worksheets`, `room` and `limits`, share `typings`.
 // `lists` names them all; `boundary` and `limits` hold document 01's answers in place of the crate's. docs/STORED.md says what the
 // records hold.
 
@@ -13,7 +13,6 @@ mod calls;
 mod combine;
 mod consensus;
 mod convertible;
-mod expressions;
 mod hand_made;
 mod handsets;
 mod lists;
@@ -25,6 +24,7 @@ mod rule_records;
 mod set_answers;
 mod steps;
 mod tally;
+mod typings;
 mod walk;
 
 use lists::List;

@@ -2,7 +2,7 @@
 
 use crate::records::word;
 use domain::ConstructorSet;
-use domain::ScalarSet;
+use scalars::ScalarSet;
 
 // Whether the set of that name has the stored mask.
 pub fn agrees(record: &[u8]) -> bool {

@@ -1,11 +1,4 @@
--- Laws of rules and Regular sets that several proofs use.
+-- Laws of rules that several proofs use.
 pub mod Rules
-pub mod Regulars
-pub mod Puts
 pub mod Records
-pub mod Conclusions
-pub mod Listings
-pub mod RegularCodes
-pub mod RegularSteps
-pub mod RegularRules
-pub mod SetPapers
+pub mod RulePapers

@@ -9,8 +9,8 @@ use lib.Dec.{eqb, leb, ltb}
 use lib.ListN.{length, take, getD, replicate, length-take, length-replicate, getD-replicate, List·getD-eq-default}
 use lib.Seq.{getD-take}
 use borrow.Author.Tests.{le-leb, lt-leb, leb-true, leb-false, ltb-true, ne-eqb}
-use Rattle.domain.specs.Mask.{choose, both, either, every}
-use Rattle.domain.specs.Domain.{converts, value?, known?, isAbstract}
+use Rattle.scalars.specs.Mask.{choose, both, either, every}
+use Rattle.scalars.specs.Domain.{converts, value?, known?, isAbstract}
 use Rattle.rules.specs.Signature.{reaches, takesAt, takes, allConcrete, concrete}
 use Rattle.rules.specs.Rule.{argumentsOf, signatureOf, knownRule}
 use Rattle.rules.specs.declared.rule.Rule.{Rule}

@@ -4,13 +4,13 @@ use mathlib.Core.List.{List, map}
 use Prim.Native.Nat.{ℕ}
 use lib.Dec.{ltb}
 use lib.ListN.{length, getD, replicate}
-use Rattle.domain.specs.Mask.{padded}
+use Rattle.scalars.specs.Mask.{padded}
 use Rattle.rules.specs.Signature.{Signature}
 use Rattle.rules.specs.Rule.{blankRule, ruleOf}
-use Rattle.domain.specs.declared.answer.CountAnswer.the-variants.{Count, Refused}
+use Rattle.scalars.specs.declared.answer.CountAnswer.the-variants.{Count, Refused}
 use Rattle.rules.specs.declared.listing.Listing.{Listing}
 use Rattle.rules.specs.declared.listing.AllowedArgs.{AllowedArgs}
-use Rattle.domain.specs.declared.refusal.Refusal.{Refusal}
+use Rattle.scalars.specs.declared.refusal.Refusal.{Refusal}
 
 -- a Regular set of 13 constructors and 12 scalars has the longest listing
 abbrev pub mostListed : ℕ

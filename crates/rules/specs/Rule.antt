@@ -5,12 +5,12 @@ use mathlib.Core.List.{List, [], _∷_}
 use Prim.Native.Nat.{ℕ}
 use lib.Dec.{leb}
 use lib.ListN.{length, take, getD}
-use Rattle.domain.specs.Mask.{choose, both, every}
-use Rattle.domain.specs.Domain.{value?, known?}
+use Rattle.scalars.specs.Mask.{choose, both, every}
+use Rattle.scalars.specs.Domain.{value?, known?}
 use Rattle.rules.specs.Signature.{Signature, takes, concrete}
 use Rattle.domain.specs.Constructor.{constructorOf}
 use Rattle.domain.specs.TypeCode.{predeclaredCode}
-use Rattle.domain.specs.declared.refusal.Refusal.the-variants.{TooMany, Unknown}
+use Rattle.scalars.specs.declared.refusal.Refusal.the-variants.{TooMany, Unknown}
 use Rattle.rules.specs.declared.rule.Rule.{Rule}
 use Rattle.rules.specs.declared.rule.RuleAnswer.{RuleAnswer}
 use Rattle.rules.specs.declared.rule.RuleAnswer.the-variants as answer

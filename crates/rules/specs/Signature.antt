@@ -3,8 +3,8 @@ use mathlib.Core.Bool.{Bool, false, not}
 use mathlib.Core.List.{List, [], _∷_}
 use Prim.Native.Nat.{ℕ, zero, suc}
 use lib.Dec.{eqb}
-use Rattle.domain.specs.Mask.{both, every}
-use Rattle.domain.specs.Domain.{value?, constructorPart, scalarPart, converts, isAbstract}
+use Rattle.scalars.specs.Mask.{both, every}
+use Rattle.scalars.specs.Domain.{value?, constructorPart, scalarPart, converts, isAbstract}
 
 -- a rule's meaning: the types of its arguments, and its result
 pub record Signature : Type 0 where

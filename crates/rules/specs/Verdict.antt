@@ -3,14 +3,14 @@ use mathlib.Core.List.{List, [], _∷_}
 use Prim.Native.Nat.{ℕ, max}
 use lib.ListN.{length}
 use Rattle.rules.specs.Signature.{Signature}
-use Rattle.domain.specs.declared.answer.Verdict.{Verdict}
-use Rattle.domain.specs.declared.answer.Verdict.the-variants as verdict
-use Rattle.domain.specs.declared.answer.Test.{Test}
-use Rattle.domain.specs.declared.answer.Test.the-variants as test
-use Rattle.domain.specs.declared.answer.CountAnswer.{CountAnswer}
-use Rattle.domain.specs.declared.answer.CountAnswer.the-variants as count
-use Rattle.domain.specs.declared.refusal.Refusal.{Refusal}
-use Rattle.domain.specs.declared.refusal.Refusal.the-variants.{EmptySet}
+use Rattle.scalars.specs.declared.answer.Verdict.{Verdict}
+use Rattle.scalars.specs.declared.answer.Verdict.the-variants as verdict
+use Rattle.scalars.specs.declared.answer.Test.{Test}
+use Rattle.scalars.specs.declared.answer.Test.the-variants as test
+use Rattle.scalars.specs.declared.answer.CountAnswer.{CountAnswer}
+use Rattle.scalars.specs.declared.answer.CountAnswer.the-variants as count
+use Rattle.scalars.specs.declared.refusal.Refusal.{Refusal}
+use Rattle.scalars.specs.declared.refusal.Refusal.the-variants.{EmptySet}
 
 -- what is answered of a set that is accepted, or its refusal
 abbrev pub onVerdict {ℓ} : {A : Type ℓ} → Verdict → A → (Refusal → A) → A

@@ -1,10 +1,7 @@
-// Type rules, and Regular sets of them: naga's `src/proc/overloads/rule.rs` and `regular.rs`, above the crate `domain`.
-//
-// Each file has the name of the Rust's; beside them stands `listing`, what a set of either kind lists. Every public function ends on
-// every input and tests it itself.
+// Type rules: naga's `src/proc/overloads/rule.rs`, above the crate `domain`. Beside it stands `listing`, what a set of either kind
+// lists. Every public function ends on every input and tests it itself.
 
 mod listing;
-mod regular;
 mod rule;
 
 pub use listing::AllowedArgs;
@@ -13,9 +10,6 @@ pub use listing::no_codes;
 pub use listing::no_listing;
 pub use listing::no_rules;
 pub use listing::no_types;
-pub use regular::ConclusionRule;
-pub use regular::Regular;
-pub use regular::RegularAnswer;
 pub use rule::Keep;
 pub use rule::MOST_ARGUMENTS;
 pub use rule::Predeclared;

@@ -6,8 +6,8 @@ ghost use lib.ListN.{replicate};
 ghost use Rattle.rules.specs.Rule.{blankRule};
 ghost use Rattle.rules.specs.Listing.{refusedListing, refusedTypes};
 use crate::rule::Rule;
-use domain::CountAnswer;
-use domain::Refusal;
+use scalars::CountAnswer;
+use scalars::Refusal;
 
 // How many rules there are, or the refusal; beside it the rules, in order.
 pub struct Listing {

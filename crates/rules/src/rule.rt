@@ -8,21 +8,21 @@ ghost use mathlib.Core.Bool.{not};
 ghost use Prim.Native.Nat.{_≤_, min};
 ghost use lib.Dec.{leb};
 ghost use lib.ListN.{getD, replicate};
-ghost use Rattle.domain.specs.Mask.{choose, both, either};
-ghost use Rattle.domain.specs.Domain.{value?, isAbstract};
+ghost use Rattle.scalars.specs.Mask.{choose, both, either};
+ghost use Rattle.scalars.specs.Domain.{value?, isAbstract};
 ghost use Rattle.rules.specs.Signature.{reaches, takes, concrete};
 ghost use Rattle.rules.specs.Rule.{argumentsOf, signatureOf, ruleOf, checkedRule, knownRule, predeclaredOf, passes};
 use domain::CodeAnswer;
 use domain::ConstructorAnswer;
 use domain::ConstructorSize;
 use domain::LAST_CODE;
-use domain::Refusal;
-use domain::Scalar;
 use domain::TypeParts;
 use domain::VALUES;
 use domain::code_of;
 use domain::is_abstract;
 use domain::scalar_converts;
+use scalars::Refusal;
+use scalars::Scalar;
 
 // The most arguments of a rule.
 pub const MOST_ARGUMENTS: u8 = 4;
@@ -117,8 +117,7 @@ impl Rule {
     }
 
     // The rule of n arguments of one type.
-    pub(crate) fn uniform(n: u8, t: u8, result: u8) -> Rule
-        requires { ⌜ n ≤ 4 ⌝ }
+    pub fn uniform(n: u8, t: u8, result: u8) -> Rule
         ensures { λ r. ⌜ r ≡ ruleOf (record { arguments = replicate n t; result = result }) ⌝ }
     {
         Rule {

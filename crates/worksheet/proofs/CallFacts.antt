@@ -1,6 +1,6 @@
 -- What a single call answers, for the second pass: a chosen rule has an argument for each operand, in the four fields of its record;
 -- an operand after which no rule is left is one of the operands.
--- Rests on the database only by the laws of proofs/Database.antt. Assumes nothing.
+-- Rests on the database only by the laws of `functions/proofs/Database.antt`. Assumes nothing.
 use mathlib.Core.Path.{_≡_, ap, subst}
 use mathlib.Core.Bool.{Bool, true, false}
 use mathlib.Core.List.{List}
@@ -9,25 +9,25 @@ use native.Mathlib.Omega.{arith}
 use borrow.Author.Tests.{lt-ltb, le-ltb}
 use lib.Dec.{ltb}
 use lib.ListN.{length}
-use Rattle.domain.specs.Mask.{choose}
-use Rattle.domain.specs.Domain.{firstUnknown}
+use Rattle.scalars.specs.Mask.{choose}
+use Rattle.scalars.specs.Domain.{firstUnknown}
 use Rattle.rules.specs.Signature.{Signature}
 use Rattle.rules.specs.Rule.{argumentsOf, ruleOf}
 use Rattle.overloads.specs.Choice.{Choice, chosen, wrongCount, noneAfter, noneConcrete, resolve}
-use Rattle.overloads.specs.Taking.{Says}
+use Rattle.overloads.specs.Taking.{OneLength, Says}
 use Rattle.overloads.proofs.Choices.{resolve-says}
 use Rattle.rules.proofs.Records.{record-says}
 use Rattle.functions.specs.Functions.{functionCount, listingOf}
 use Rattle.overloads.specs.Call.{answered, callOf}
-use Rattle.domain.specs.Refusal.{numberOf, placeOf}
+use Rattle.scalars.specs.Refusal.{numberOf, placeOf}
 use Rattle.overloads.specs.declared.list.Chosen.{Chosen}
 use Rattle.overloads.specs.declared.call.CallAnswer.{CallAnswer}
 use Rattle.overloads.specs.declared.call.CallAnswer.the-variants as answers
-use Rattle.domain.specs.declared.refusal.Refusal.{Refusal}
-use Rattle.domain.specs.declared.refusal.Refusal.the-variants.{Unknown}
-use Rattle.worksheet.specs.Machine.{mostOperands}
+use Rattle.scalars.specs.declared.refusal.Refusal.{Refusal}
+use Rattle.scalars.specs.declared.refusal.Refusal.the-variants.{Unknown}
+use Rattle.machine.specs.Machine.{mostOperands}
 use Rattle.worksheet.specs.SecondPass.{Within}
-use Rattle.worksheet.proofs.Database.{one-length, four-arguments, result-known}
+use Rattle.functions.proofs.Database.{one-length, four-arguments, result-known}
 
 -- what is known of a choice
 pub record Ruled (ts : List ℕ) (r : Signature) : Type 0 where
@@ -53,6 +53,7 @@ module _ (switch : Bool) (f : ℕ) (ts : List ℕ) where
   chose-from noneConcrete d = tt
 
   pub chose : Chose ts (resolve switch (listingOf f) ts)
+  unfolding OneLength
   chose = chose-from (resolve switch (listingOf f) ts) (resolve-says switch (listingOf f) ts (one-length f))
 
   -- what is known of an answer, whatever was asked

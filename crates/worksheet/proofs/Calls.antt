@@ -8,7 +8,7 @@ use Prim.Native.Nat.{ℕ, _+_, _-_, _≤_, _<_}
 use native.Mathlib.Omega.{arith}
 use lib.ListN.{length, getD, take, drop, length-append, length-take}
 use lib.Seq.{take-add, take-at, drop-at, getD-take, getD-append-add}
-use Rattle.domain.specs.Domain.{firstUnknown}
+use Rattle.scalars.specs.Domain.{firstUnknown}
 use Rattle.rules.specs.Rule.{argumentsOf, ruleOf}
 use Rattle.rules.specs.Signature.{Signature}
 use Rattle.overloads.specs.Choice.{Choice, chosen, wrongCount, noneAfter, noneConcrete, resolve}
@@ -17,19 +17,19 @@ use Rattle.overloads.specs.Call.{answered, callOf}
 use Rattle.rules.specs.declared.rule.Rule.{Rule}
 use Rattle.overloads.specs.declared.list.Chosen.{Chosen}
 use Rattle.overloads.specs.declared.call.CallAnswer.the-variants as answers
-use Rattle.domain.specs.declared.refusal.Refusal.{Refusal}
-use Rattle.domain.specs.declared.refusal.Refusal.the-variants.{EmptySet, WrongCount, NoRuleLeft}
+use Rattle.scalars.specs.declared.refusal.Refusal.{Refusal}
+use Rattle.scalars.specs.declared.refusal.Refusal.the-variants.{EmptySet, WrongCount, NoRuleLeft}
 use Rattle.worksheet.specs.declared.sheet.Sheet.{Sheet}
 use Rattle.worksheet.specs.declared.stack.Stack.{Stack}
 use Rattle.worksheet.specs.declared.progress.Progress.{Progress}
 use Rattle.worksheet.specs.declared.progress.Verdict.the-variants.{Clean, Wrong}
-use Rattle.worksheet.specs.Line.{callLine, callMark, conversions, callLines, encode}
+use Rattle.machine.specs.Line.{callLine, callMark, conversions, callLines, encode}
 use Rattle.worksheet.specs.Typer.{conclude}
 use Rattle.worksheet.specs.Answer.{enoughBytes}
 use Rattle.worksheet.specs.Sheet.{Wrote}
 use Rattle.worksheet.specs.Stack.{typesOn, Pushed, Cut}
 use Rattle.worksheet.specs.SecondPass.{placedAt, ConversionRoom, CallThere, CallClaim, CallTyped}
-use Rattle.worksheet.proofs.LineBytes.{encode-append}
+use Rattle.machine.proofs.LineBytes.{encode-append}
 use Rattle.worksheet.proofs.Room.{four-each, few-conversions}
 use Rattle.worksheet.proofs.Written.{wrote-both, wrote-as}
 use Rattle.worksheet.proofs.CallFacts.{Chose, chose, Ruled, call-known}

@@ -13,7 +13,7 @@ use lib.Seq.{drop-cons}
 use Rattle.rules.specs.Rule.{argumentsOf}
 use Rattle.rules.specs.declared.rule.Rule.{Rule}
 use Rattle.worksheet.specs.declared.sheet.Sheet.{Sheet}
-use Rattle.worksheet.specs.Line.{conversionLine, conversionMark, unlessSame, conversions, encode}
+use Rattle.machine.specs.Line.{conversionLine, conversionMark, unlessSame, conversions, encode}
 use Rattle.worksheet.specs.Sheet.{Wrote}
 use Rattle.worksheet.proofs.Written.{wrote-both, wrote-as, wrote-nothing}
 

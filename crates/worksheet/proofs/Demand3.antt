@@ -12,10 +12,10 @@ use lib.ListN.{length}
 use borrow.Author.Tests.{le-leb}
 use Rattle.rules.specs.Signature.{Signature}
 use Rattle.overloads.specs.Taking.{OneLength}
-use Rattle.domain.specs.declared.refusal.Refusal.{Refusal}
-use Rattle.worksheet.specs.Tree.{Tree, WellFormed}
-use Rattle.worksheet.specs.Line.{Line, encode}
-use Rattle.worksheet.specs.Machine.{ended, step, run}
+use Rattle.scalars.specs.declared.refusal.Refusal.{Refusal}
+use Rattle.expressions.specs.Tree.{Tree, WellFormed}
+use Rattle.machine.specs.Line.{Line, encode}
+use Rattle.machine.specs.Machine.{ended, step, run}
 use Rattle.worksheet.specs.Typer.{Typed, typed, refused, typeOf}
 use Rattle.worksheet.specs.Answer.{withRoom, enoughBytes, answer}
 use Rattle.worksheet.specs.Meaning.{Gives, Stuck}
@@ -24,7 +24,7 @@ use Rattle.worksheet.proofs.Exact.{Means, means, gives-typed, fails-ref
 use Rattle.worksheet.proofs.Own.{own}
 use Rattle.worksheet.proofs.Room.{four-each, enough}
 use Rattle.worksheet.proofs.Runs.{runs}
-use Rattle.worksheet.proofs.LineBytes.{bytes-run}
+use Rattle.machine.proofs.LineBytes.{bytes-run}
 
 module _ (listingOf : ℕ → List Signature) (switch : Bool) (one : (f : ℕ) → OneLength (listingOf f))
     (functions : ℕ) (e : Tree) (fit : WellFormed functions e) where

@@ -13,9 +13,9 @@ use Rattle.overloads.specs.Choice.{Choice, chosen, wrongCount, noneAfter, noneC
 use Rattle.overloads.specs.Taking.{NoRule, Best, OneLength, Says}
 use Rattle.overloads.proofs.Choices.{resolve-says}
 use Rattle.overloads.proofs.Demand2.{exactly}
-use Rattle.domain.specs.declared.refusal.Refusal.{Refusal}
-use Rattle.worksheet.specs.Tree.{Tree, Trees, leaf, call, none, more}
-use Rattle.worksheet.specs.Line.{Line}
+use Rattle.scalars.specs.declared.refusal.Refusal.{Refusal}
+use Rattle.expressions.specs.Tree.{Tree, Trees, leaf, call, none, more}
+use Rattle.machine.specs.Line.{Line}
 use Rattle.worksheet.specs.Places.{inside, behind, starts}
 use Rattle.worksheet.specs.Typer.{Typed, typed, refused, Operands, operands, refusedAmong, before, conclude, concludeCall, typeOf, typeAll}
 use Rattle.worksheet.specs.Meaning.{Gives, leafGives, callGives, GiveAll, noneGive, moreGive, Stuck, atArgument, atCall, StuckAmong, firstStuck, laterStuck}

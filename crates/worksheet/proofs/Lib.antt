@@ -1,25 +1,13 @@
--- The laws that the proofs of the functions cite, and the theorems: AcceptsExactly, Demand3, OurFunctions and Readings.
-pub mod Bytes
-pub mod Sound
-pub mod Complete
-pub mod AcceptsExactly
-pub mod OneTree
-pub mod FirstBytes
-pub mod Steps
-pub mod Answers
+-- The laws that the proofs of the functions cite, and the theorems: Demand3, OurFunctions and Readings.
 pub mod Exact
 pub mod Own
 pub mod Room
 pub mod Runs
-pub mod LineBytes
-pub mod Walk
-pub mod TopLast
 pub mod Operands
 pub mod Demand3
 pub mod Written
 pub mod Conversions
 pub mod Placing
-pub mod Database
 pub mod CallFacts
 pub mod Calls
 pub mod Pushes
@@ -28,11 +16,5 @@ pub mod Passes
 pub mod Whole
 pub mod RootAnswers
 pub mod Papers
-pub mod Stacks
-pub mod Likeness
-pub mod Matching
-pub mod LinesDone
-pub mod RuleRecords
-pub mod Outcomes
 pub mod Readings
 pub mod OurFunctions

@@ -7,14 +7,16 @@ use mathlib.Core.List.{List}
 use mathlib.Core.Path.{_≡_}
 use Prim.Native.Nat.{ℕ}
 use Rattle.functions.specs.Functions.{functionCount, listingOf}
-use Rattle.worksheet.specs.Tree.{Tree, bytesOf, WellFormed}
-use Rattle.worksheet.specs.Reading.{read, expressionOf}
+use Rattle.expressions.specs.Tree.{Tree, bytesOf, WellFormed}
+use Rattle.expressions.specs.Reading.{read, expressionOf}
+use Rattle.overloads.specs.Taking.{OneLength}
 use Rattle.worksheet.specs.Demand3.{Demand3}
-use Rattle.worksheet.proofs.AcceptsExactly.{accepts-only}
-use Rattle.worksheet.proofs.Database.{one-length}
+use Rattle.expressions.proofs.AcceptsExactly.{accepts-only}
+use Rattle.functions.proofs.Database.{one-length}
 use Rattle.worksheet.proofs.Demand3.{demand-3}
 
 pub for-trees : (switch : Bool) (e : Tree) → WellFormed functionCount e → Demand3 listingOf switch e
+unfolding OneLength
 for-trees switch e fit = demand-3 listingOf switch one-length functionCount e fit
 
 -- of bytes that the first pass reads: they are that tree's, and the tree has its demand

@@ -7,8 +7,8 @@ use Prim.Native.Nat.{ℕ, suc}
 use lib.Dec.{eqb}
 use lib.ListN.{length}
 use Rattle.rules.specs.Signature.{Signature}
-use Rattle.worksheet.specs.Tree.{Tree, Trees, leaf, call, none, more, count}
-use Rattle.worksheet.specs.Line.{Line, leafLine, conversionLine, callLine, unlessSame, conversions, callLines}
+use Rattle.expressions.specs.Tree.{Tree, Trees, leaf, call, none, more, count}
+use Rattle.machine.specs.Line.{Line, leafLine, conversionLine, callLine, unlessSame, conversions, callLines}
 use Rattle.worksheet.specs.Meaning.{Node, leafNode, callNode, order, orderAll, ownOf, Gives, leafGives, callGives, GiveAll, noneGive, moreGive}
 
 own-append : (v w : List Line) → ownOf (v ++ w) ≡ ownOf v ++ ownOf w

@@ -1,15 +1,12 @@
--- The paper's numbers determine what `type_expression` and `read_expression` answer: two answers with the same number, place and value
--- are equal. Shown by reading the answer back. Assumes nothing.
+-- The paper's numbers determine what `type_expression` answers: two answers with the same number, place and value are equal. Shown by
+-- reading the answer back. Assumes nothing.
 use mathlib.Core.Path.{_≡_, refl}
 use mathlib.Core.List.{[], _∷_}
 use lib.ListN.{getD}
-use Rattle.domain.proofs.Papers.{read, reads-refused, one-to-one}
+use Rattle.scalars.proofs.Papers.{read, reads-refused, one-to-one}
 use Rattle.worksheet.specs.declared.typer.TypeAnswer.{TypeAnswer}
 use Rattle.worksheet.specs.declared.typer.TypeAnswer.the-variants.{Typed, Refused}
-use Rattle.worksheet.specs.declared.expression.Read.{Read}
-use Rattle.worksheet.specs.declared.expression.Read.the-variants as pass
 use Rattle.worksheet.specs.Typing.{typePaper}
-use Rattle.worksheet.specs.FirstPass.{readPaper}
 
 type-back : (a : TypeAnswer) → read (λ vs. Typed (getD vs 0 0)) Refused (typePaper a) ≡ a
 unfolding read
@@ -18,11 +15,3 @@ type-back (Refused why) = reads-refused (λ vs. Typed (getD vs 0 0)) Refused why
 
 pub type-one : (a b : TypeAnswer) → typePaper a ≡ typePaper b → a ≡ b
 type-one = one-to-one typePaper (read (λ vs. Typed (getD vs 0 0)) Refused) type-back
-
-read-back : (a : Read) → read (λ vs. pass.Accepted (getD vs 0 0)) pass.Refused (readPaper a) ≡ a
-unfolding read
-read-back (pass.Accepted n) = refl
-read-back (pass.Refused why) = reads-refused (λ vs. pass.Accepted (getD vs 0 0)) pass.Refused why (255 ∷ [])
-
-pub read-one : (a b : Read) → readPaper a ≡ readPaper b → a ≡ b
-read-one = one-to-one readPaper (read (λ vs. pass.Accepted (getD vs 0 0)) pass.Refused) read-back

@@ -1,6 +1,6 @@
 -- The second pass, by what stands at an offset: one law for each way through `type_node` and `type_arguments`, so that the functions'
 -- proofs only cite it.
--- Rests on the database only by the laws of proofs/Database.antt. Assumes nothing.
+-- Rests on the database only by the laws of `functions/proofs/Database.antt`. Assumes nothing.
 use mathlib.Core.Path.{_≡_, refl, sym, ap, subst, _∙_}
 use mathlib.Core.Bool.{Bool}
 use mathlib.Core.List.{List, [], _∷_, _++_, append-assoc}
@@ -9,23 +9,23 @@ use native.Mathlib.Omega.{arith}
 use lib.ListN.{length, getD, drop, length-append}
 use Rattle.overloads.specs.Choice.{Choice, chosen, wrongCount, noneAfter, noneConcrete, resolve}
 use Rattle.functions.specs.Functions.{functionCount, listingOf}
-use Rattle.domain.specs.declared.refusal.Refusal.{Refusal}
+use Rattle.scalars.specs.declared.refusal.Refusal.{Refusal}
 use Rattle.worksheet.specs.declared.sheet.Sheet.{Sheet}
 use Rattle.worksheet.specs.declared.stack.Stack.{Stack}
 use Rattle.worksheet.specs.declared.progress.Progress.{Progress}
 use Rattle.worksheet.specs.declared.progress.Verdict.{Verdict}
 use Rattle.worksheet.specs.declared.progress.Verdict.the-variants.{Clean, Wrong}
-use Rattle.worksheet.specs.Tree.{Tree, Trees, leaf, call, none, more, count, bytesOf, bytesOfAll, nodes, nodesAll, Known, KnownAll}
-use Rattle.worksheet.specs.Line.{Line, leafMark, callLines, encode}
-use Rattle.worksheet.specs.Machine.{mostOperands}
+use Rattle.expressions.specs.Tree.{Tree, Trees, leaf, call, none, more, count, bytesOf, bytesOfAll, nodes, nodesAll, Known, KnownAll}
+use Rattle.machine.specs.Line.{Line, leafMark, callLines, encode}
+use Rattle.machine.specs.Machine.{mostOperands}
 use Rattle.worksheet.specs.Answer.{enoughBytes}
 use Rattle.worksheet.specs.Places.{inside, behind, starts}
 use Rattle.worksheet.specs.Typer.{Typed, typed, refused, Operands, operands, refusedAmong, before, conclude, concludeCall, typeOf, typeAll}
 use Rattle.worksheet.specs.Sheet.{Wrote}
 use Rattle.worksheet.specs.Stack.{typesOn, startsOn, Full, Pushed}
 use Rattle.worksheet.specs.SecondPass.{Went, CallThere, CallClaim, CallTyped, NodeThere, NodeClaim, NodeTyped, ArgsThere, ArgsClaim, ArgsTyped}
-use Rattle.worksheet.proofs.Bytes.{after, leaf-there, call-there, bytes-least}
-use Rattle.worksheet.proofs.LineBytes.{encode-append}
+use Rattle.expressions.proofs.Bytes.{after, leaf-there, call-there, bytes-least}
+use Rattle.machine.proofs.LineBytes.{encode-append}
 use Rattle.worksheet.proofs.Room.{four-each}
 use Rattle.worksheet.proofs.Written.{wrote-nothing, wrote-both, wrote-as}
 use Rattle.worksheet.proofs.Pushes.{pushed-nothing, pushed-both, pushed-full}

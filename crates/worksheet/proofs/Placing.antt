@@ -6,10 +6,10 @@ use Prim.Native.Nat.{ℕ, _+_, _-_, _≤_, _<_}
 use native.Mathlib.Omega.{arith}
 use borrow.Author.Tests.{eq-eqb, ne-eqb}
 use lib.ListN.{getD}
-use Rattle.domain.specs.Refusal.{numberOf, placeOf}
-use Rattle.domain.specs.declared.refusal.Refusal.{Refusal}
-use Rattle.domain.specs.declared.refusal.Refusal.the-variants.{EmptySet, WrongCount, NoRuleLeft}
-use Rattle.worksheet.specs.Machine.{mostOperands}
+use Rattle.scalars.specs.Refusal.{numberOf, placeOf}
+use Rattle.scalars.specs.declared.refusal.Refusal.{Refusal}
+use Rattle.scalars.specs.declared.refusal.Refusal.the-variants.{EmptySet, WrongCount, NoRuleLeft}
+use Rattle.machine.specs.Machine.{mostOperands}
 use Rattle.worksheet.specs.SecondPass.{Within, placedAt}
 
 module _ (at from : ℕ) (offsets : List ℕ) (why : Refusal) (n : ℕ) where

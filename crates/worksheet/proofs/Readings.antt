@@ -1,18 +1,18 @@
 -- 'Readings at the bench': document 01's marked readings hold, one table by one statement. Assumes nothing.
 use mathlib.Core.Path.{_≡_, refl}
-use Rattle.domain.specs.Mask.{bits}
-use Rattle.domain.specs.Domain.{converts, isAbstract, firstUnknown}
+use Rattle.scalars.specs.Mask.{bits}
+use Rattle.scalars.specs.Domain.{converts, isAbstract, firstUnknown}
 use Rattle.domain.specs.Conversion.{combination, agree, consensusWith, consensusWithout}
 use Rattle.domain.specs.TypeCode.{predeclaredCode}
 use Rattle.rules.specs.Signature.{reaches}
 use Rattle.overloads.specs.Choice.{narrow, resolve}
 use Rattle.rules.specs.Rule.{ruleOf}
-use Rattle.rules.specs.Regular.{codesOf, concludedOf, regularRules}
+use Rattle.regular.specs.Regular.{codesOf, concludedOf, regularRules}
 use Rattle.functions.specs.Sequences.{floatScalars, concreteFloatScalars, concreteIntScalars, vectorSizes, vector, matrix, scalarOrVecn}
 use Rattle.functions.specs.Functions.{functionSets, functionSetOf, listedRules, listingOf}
 use Rattle.overloads.specs.Call.{callOf, survivorsOf, survivorsOfCall}
-use Rattle.worksheet.specs.Reading.{argsAt, leafAt, callAt, taggedAt, nodeAt, expressionOf}
-use Rattle.worksheet.specs.Line.{encode}
+use Rattle.expressions.specs.Reading.{argsAt, leafAt, callAt, taggedAt, nodeAt, expressionOf}
+use Rattle.machine.specs.Line.{encode}
 use Rattle.worksheet.specs.Typer.{typeOf, typeAll}
 use Rattle.worksheet.specs.Answer.{answer}
 use Rattle.worksheet.specs.Typing.{typingOf}

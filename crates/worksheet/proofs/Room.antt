@@ -9,8 +9,8 @@ use native.Mathlib.Omega.{arith}
 use lib.Dec.{eqb}
 use lib.ListN.{length, length-append}
 use Rattle.rules.specs.Signature.{Signature}
-use Rattle.worksheet.specs.Tree.{Tree, Trees, leaf, call, none, more, nodes, nodesAll, mostNodes}
-use Rattle.worksheet.specs.Line.{Line, leafLine, conversionLine, callLine, unlessSame, conversions, encode}
+use Rattle.expressions.specs.Tree.{Tree, Trees, leaf, call, none, more, nodes, nodesAll, mostNodes}
+use Rattle.machine.specs.Line.{Line, leafLine, conversionLine, callLine, unlessSame, conversions, encode}
 use Rattle.worksheet.specs.Answer.{enoughBytes}
 use Rattle.worksheet.specs.Meaning.{Gives, leafGives, callGives, GiveAll, noneGive, moreGive}
 

@@ -4,8 +4,8 @@ use mathlib.Core.Path.{_≡_, refl, ap}
 use mathlib.Core.List.{List}
 use Prim.Native.Nat.{ℕ}
 use lib.ListN.{length, getD}
-use Rattle.domain.specs.declared.refusal.Refusal.{Refusal}
-use Rattle.domain.specs.declared.refusal.Refusal.the-variants.{NoRoom}
+use Rattle.scalars.specs.declared.refusal.Refusal.{Refusal}
+use Rattle.scalars.specs.declared.refusal.Refusal.the-variants.{NoRoom}
 use Rattle.worksheet.specs.declared.sheet.Room.{Room}
 use Rattle.worksheet.specs.declared.sheet.Room.the-variants.{Fits, Short}
 use Rattle.worksheet.specs.declared.progress.Progress.{Progress}

@@ -12,11 +12,11 @@ use lib.Seq.{take-at, drop-at, getD-at, set-at}
 use borrow.Author.Tests.{eqb-true, eq-eqb, lt-ltb, le-leb}
 use Rattle.rules.specs.Signature.{Signature, reaches}
 use Rattle.overloads.specs.Taking.{Takes}
-use Rattle.worksheet.specs.Tree.{Tree, Trees, leaf, call, none, more, nodes, nodesAll, lastLeaf, Known, KnownAll}
-use Rattle.worksheet.specs.Line.{Line, leafLine, conversionLine, callLine, unlessSame, conversions, callLines}
-use Rattle.worksheet.specs.Machine.{ended, mostOperands, convertAt, apply, runBy, step, run}
+use Rattle.expressions.specs.Tree.{Tree, Trees, leaf, call, none, more, nodes, nodesAll, lastLeaf, Known, KnownAll}
+use Rattle.machine.specs.Line.{Line, leafLine, conversionLine, callLine, unlessSame, conversions, callLines}
+use Rattle.machine.specs.Machine.{ended, mostOperands, convertAt, apply, runBy, step, run}
 use Rattle.worksheet.specs.Meaning.{Gives, leafGives, callGives, GiveAll, noneGive, moreGive}
-use Rattle.worksheet.proofs.Likeness.{same-same}
+use Rattle.machine.proofs.Likeness.{same-same}
 
 -- operands stand on the stack in reverse, the last on top
 convert-under : (ts s : List ℕ) (t a : ℕ) → eqb t a ≡ false → reaches t a ≡ true

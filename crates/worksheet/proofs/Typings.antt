@@ -1,6 +1,6 @@
 -- What the second pass answers for known trees: fewer than twice as many lines as nodes, one operand for each argument, and types that
 -- are type codes.
--- Rests on the database only by the laws of proofs/Database.antt. Assumes nothing.
+-- Rests on the database only by the laws of `functions/proofs/Database.antt`. Assumes nothing.
 use mathlib.Core.Path.{_≡_, refl, ap}
 use mathlib.Core.Bool.{Bool}
 use mathlib.Core.List.{List, [], _∷_, _++_}
@@ -8,11 +8,11 @@ use Prim.Native.Nat.{ℕ, suc, _+_, _*_, _≤_}
 use native.Mathlib.Omega.{arith}
 use borrow.Author.Tests.{le-leb}
 use lib.ListN.{length, length-append}
-use Rattle.domain.specs.Domain.{firstUnknown}
+use Rattle.scalars.specs.Domain.{firstUnknown}
 use Rattle.overloads.specs.Choice.{Choice, chosen, wrongCount, noneAfter, noneConcrete, resolve}
 use Rattle.functions.specs.Functions.{functionCount, listingOf}
-use Rattle.worksheet.specs.Tree.{Tree, Trees, leaf, call, none, more, count, nodes, nodesAll, Known, KnownAll}
-use Rattle.worksheet.specs.Line.{Line, callLine, conversions}
+use Rattle.expressions.specs.Tree.{Tree, Trees, leaf, call, none, more, count, nodes, nodesAll, Known, KnownAll}
+use Rattle.machine.specs.Line.{Line, callLine, conversions}
 use Rattle.worksheet.specs.Places.{inside, behind, starts}
 use Rattle.worksheet.specs.Typer.{Typed, typed, refused, Operands, operands, refusedAmong, before, conclude, concludeCall, typeOf, typeAll}
 use Rattle.worksheet.proofs.Room.{few-conversions}

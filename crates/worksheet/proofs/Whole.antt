@@ -1,5 +1,5 @@
 -- The whole answer: a fault of the first pass, or what the second pass makes of the tree that the first one accepted.
--- Rests on the database only by the laws of proofs/Database.antt. Assumes nothing.
+-- Rests on the database only by the laws of `functions/proofs/Database.antt`. Assumes nothing.
 use mathlib.Core.Path.{_≡_, refl, sym, ap, _∙_}
 use mathlib.Core.Bool.{Bool}
 use mathlib.Core.List.{List, [], _∷_, _++_, append-nil}
@@ -10,26 +10,26 @@ use borrow.Author.Tests.{lt-ltb, le-ltb, lt-leb, le-leb}
 use lib.ListN.{length, getD, take, drop}
 use lib.Seq.{getD-take}
 use Rattle.functions.specs.Functions.{functionCount, listingOf}
-use Rattle.domain.specs.declared.refusal.Refusal.{Refusal}
+use Rattle.scalars.specs.declared.refusal.Refusal.{Refusal}
 use Rattle.worksheet.specs.declared.sheet.Sheet.{Sheet}
 use Rattle.worksheet.specs.declared.stack.Stack.{Stack}
-use Rattle.worksheet.specs.declared.expression.Read.the-variants as reading
+use Rattle.expressions.specs.declared.expression.Read.the-variants as reading
 use Rattle.worksheet.specs.declared.progress.Progress.{Progress}
 use Rattle.worksheet.specs.declared.progress.Verdict.the-variants.{Clean}
 use Rattle.worksheet.specs.declared.typer.TypeAnswer.{TypeAnswer}
 use Rattle.worksheet.specs.declared.typer.TypeAnswer.the-variants as answers
-use Rattle.worksheet.specs.Tree.{Tree, bytesOf, WellFormed}
-use Rattle.worksheet.specs.Reading.{read, expressionOf}
-use Rattle.worksheet.specs.FirstPass.{readOf}
-use Rattle.worksheet.specs.Line.{Line, encode}
+use Rattle.expressions.specs.Tree.{Tree, bytesOf, WellFormed}
+use Rattle.expressions.specs.Reading.{read, expressionOf}
+use Rattle.expressions.specs.FirstPass.{readOf}
+use Rattle.machine.specs.Line.{Line, encode}
 use Rattle.worksheet.specs.Typer.{Typed, typed, refused, typeOf}
 use Rattle.worksheet.specs.Answer.{enoughBytes, withRoom, answer, bufferAfter}
 use Rattle.worksheet.specs.Typing.{typingOf, typing, answerOf}
 use Rattle.worksheet.specs.Sheet.{written, placed}
 use Rattle.worksheet.specs.Stack.{typesOn}
 use Rattle.worksheet.specs.SecondPass.{NodeThere, NodeClaim, NodeTyped, SheetFits, verdictAnswer, rootAnswer, rootBuffer}
-use Rattle.worksheet.proofs.AcceptsExactly.{accepts-only}
-use Rattle.worksheet.proofs.Answers.{accepted-tree, refused-fault}
+use Rattle.expressions.proofs.AcceptsExactly.{accepts-only}
+use Rattle.expressions.proofs.Answers.{accepted-tree, refused-fault}
 use Rattle.worksheet.proofs.Room.{four-each}
 use Rattle.worksheet.proofs.Pushes.{empty-full}
 use Rattle.worksheet.proofs.Typings.{Sized, sized}

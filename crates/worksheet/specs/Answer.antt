@@ -4,11 +4,11 @@ use mathlib.Core.List.{List, _++_}
 use Prim.Native.Nat.{ℕ}
 use lib.Dec.{leb}
 use lib.ListN.{length, drop}
-use Rattle.domain.specs.Mask.{choose}
+use Rattle.scalars.specs.Mask.{choose}
 use Rattle.rules.specs.Signature.{Signature}
-use Rattle.domain.specs.declared.refusal.Refusal.the-variants.{NoRoom}
-use Rattle.worksheet.specs.Tree.{Tree}
-use Rattle.worksheet.specs.Line.{encode}
+use Rattle.scalars.specs.declared.refusal.Refusal.the-variants.{NoRoom}
+use Rattle.expressions.specs.Tree.{Tree}
+use Rattle.machine.specs.Line.{encode}
 use Rattle.worksheet.specs.Typer.{Typed, typed, refused, typeOf}
 
 -- a worksheet longer than the buffer is refused, at the bytes needed

@@ -18,10 +18,10 @@ use Prim.Native.Nat.{ℕ, _*_, _≤_}
 use lib.ListN.{length}
 use Rattle.rules.specs.Signature.{Signature}
 use Rattle.overloads.specs.Taking.{OneLength}
-use Rattle.domain.specs.declared.refusal.Refusal.{Refusal}
-use Rattle.worksheet.specs.Tree.{Tree, WellFormed}
-use Rattle.worksheet.specs.Line.{Line, encode}
-use Rattle.worksheet.specs.Machine.{ended, run, runBytes}
+use Rattle.scalars.specs.declared.refusal.Refusal.{Refusal}
+use Rattle.expressions.specs.Tree.{Tree, WellFormed}
+use Rattle.machine.specs.Line.{Line, encode}
+use Rattle.machine.specs.Machine.{ended, run, runBytes}
 use Rattle.worksheet.specs.Typer.{typed, refused, typeOf}
 use Rattle.worksheet.specs.Answer.{enoughBytes, answer}
 use Rattle.worksheet.specs.Meaning.{order, ownOf, Gives, Stuck}

@@ -7,11 +7,11 @@ use lib.ListN.{getD}
 use Rattle.rules.specs.Signature.{Signature}
 use Rattle.overloads.specs.Choice.{wrongCount, noneAfter, noneConcrete}
 use Rattle.overloads.specs.Taking.{Says}
-use Rattle.domain.specs.declared.refusal.Refusal.{Refusal}
-use Rattle.domain.specs.declared.refusal.Refusal.the-variants.{EmptySet, WrongCount, NoRuleLeft}
-use Rattle.worksheet.specs.Tree.{Tree, Trees, call, more}
+use Rattle.scalars.specs.declared.refusal.Refusal.{Refusal}
+use Rattle.scalars.specs.declared.refusal.Refusal.the-variants.{EmptySet, WrongCount, NoRuleLeft}
+use Rattle.expressions.specs.Tree.{Tree, Trees, call, more}
 use Rattle.worksheet.specs.Places.{inside, behind, starts}
-use Rattle.worksheet.specs.Line.{Line}
+use Rattle.machine.specs.Line.{Line}
 use Rattle.worksheet.specs.Meaning.{Gives, GiveAll}
 
 -- what is wrong with a call of these operands, and where: their number (5); the first of them after which no rule is left (6); or, with

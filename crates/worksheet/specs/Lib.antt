@@ -1,10 +1,4 @@
--- What the contracts and theorems of this crate say: expressions, their reading and typing, worksheets and the strict machine.
-pub mod Tree
-pub mod Reading
-pub mod FirstPass
-pub mod Line
-pub mod Machine
-pub mod TopLast
+-- What the contracts and theorems of this crate say: the type of an expression and its worksheet.
 pub mod Places
 pub mod Typer
 pub mod Answer
@@ -15,6 +9,4 @@ pub mod Sheet
 pub mod Stack
 pub mod Typing
 pub mod SecondPass
-pub mod Run
-pub mod MachineStack
 pub mod Readings

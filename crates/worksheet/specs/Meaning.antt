@@ -7,8 +7,8 @@ use mathlib.Core.List.{List, [], _∷_, _++_}
 use Prim.Native.Nat.{ℕ}
 use Rattle.rules.specs.Signature.{Signature}
 use Rattle.overloads.specs.Taking.{NoRule, Best}
-use Rattle.worksheet.specs.Tree.{Leaf, Tree, Trees, leaf, call, none, more, count}
-use Rattle.worksheet.specs.Line.{Line, leafLine, conversionLine, callLine, callLines}
+use Rattle.expressions.specs.Tree.{Leaf, Tree, Trees, leaf, call, none, more, count}
+use Rattle.machine.specs.Line.{Line, leafLine, conversionLine, callLine, callLines}
 
 -- an expression's own leaves and calls, arguments before their call, and those of a worksheet
 pub data Node : Type 0 where

@@ -2,7 +2,7 @@
 use mathlib.Core.List.{List, [], _∷_}
 use Prim.Native.Nat.{ℕ, _+_}
 use lib.ListN.{length}
-use Rattle.worksheet.specs.Tree.{Tree, Trees, none, more, bytesOf}
+use Rattle.expressions.specs.Tree.{Tree, Trees, none, more, bytesOf}
 
 -- the first argument begins behind the call's tag, its function and the number of its arguments
 abbrev pub inside : ℕ → ℕ

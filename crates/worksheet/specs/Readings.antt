@@ -4,7 +4,7 @@ use mathlib.Core.Bool.{false}
 use mathlib.Core.List.{List, [], _∷_, map}
 use Prim.Native.Nat.{ℕ}
 use lib.ListN.{getD, replicate}
-use Rattle.domain.specs.Paper.{Paper, scalarPaper}
+use Rattle.scalars.specs.Paper.{Paper, scalarPaper}
 use Rattle.domain.specs.Conversion.{consensusOf}
 use Rattle.domain.specs.declared.conversion.Base.{Base}
 use Rattle.domain.specs.declared.conversion.Base.the-variants as base

@@ -6,15 +6,15 @@ use mathlib.Core.List.{List, [], _∷_, _++_}
 use Prim.Native.Nat.{ℕ, _+_, _-_, _*_, _≤_, _<_}
 use lib.Dec.{eqb}
 use lib.ListN.{length, getD, drop}
-use Rattle.domain.specs.Mask.{choose}
-use Rattle.domain.specs.Refusal.{numberOf, placeOf}
-use Rattle.domain.specs.Domain.{firstUnknown}
+use Rattle.scalars.specs.Mask.{choose}
+use Rattle.scalars.specs.Refusal.{numberOf, placeOf}
+use Rattle.scalars.specs.Domain.{firstUnknown}
 use Rattle.rules.specs.Rule.{argumentsOf}
 use Rattle.overloads.specs.Choice.{resolve}
 use Rattle.functions.specs.Functions.{functionCount, listingOf}
 use Rattle.rules.specs.declared.rule.Rule.{Rule}
-use Rattle.domain.specs.declared.refusal.Refusal.{Refusal}
-use Rattle.domain.specs.declared.refusal.Refusal.the-variants.{EmptySet, WrongCount, NoRuleLeft, NoRoom}
+use Rattle.scalars.specs.declared.refusal.Refusal.{Refusal}
+use Rattle.scalars.specs.declared.refusal.Refusal.the-variants.{EmptySet, WrongCount, NoRuleLeft, NoRoom}
 use Rattle.worksheet.specs.declared.sheet.Sheet.{Sheet}
 use Rattle.worksheet.specs.declared.sheet.Room.{Room}
 use Rattle.worksheet.specs.declared.sheet.Room.the-variants.{Fits, Short}
@@ -24,9 +24,9 @@ use Rattle.worksheet.specs.declared.progress.Verdict.{Verdict}
 use Rattle.worksheet.specs.declared.progress.Verdict.the-variants.{Clean, Wrong}
 use Rattle.worksheet.specs.declared.typer.TypeAnswer.{TypeAnswer}
 use Rattle.worksheet.specs.declared.typer.TypeAnswer.the-variants as answer
-use Rattle.worksheet.specs.Tree.{Tree, Trees, count, bytesOf, bytesOfAll, nodes, nodesAll, Known, KnownAll}
-use Rattle.worksheet.specs.Line.{Line, encode}
-use Rattle.worksheet.specs.Machine.{mostOperands}
+use Rattle.expressions.specs.Tree.{Tree, Trees, count, bytesOf, bytesOfAll, nodes, nodesAll, Known, KnownAll}
+use Rattle.machine.specs.Line.{Line, encode}
+use Rattle.machine.specs.Machine.{mostOperands}
 use Rattle.worksheet.specs.Answer.{enoughBytes}
 use Rattle.worksheet.specs.Places.{behind, starts}
 use Rattle.worksheet.specs.Typer.{Typed, typed, refused, Operands, operands, refusedAmong, conclude, typeOf, typeAll}

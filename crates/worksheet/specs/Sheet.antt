@@ -4,7 +4,7 @@ use mathlib.Core.List.{List, _++_}
 use Prim.Native.Nat.{ℕ, _+_}
 use lib.Dec.{ltb}
 use lib.ListN.{length, take, drop}
-use Rattle.domain.specs.Mask.{choose}
+use Rattle.scalars.specs.Mask.{choose}
 use Rattle.worksheet.specs.declared.sheet.Sheet.{Sheet}
 use Rattle.worksheet.specs.declared.sheet.Room.{Room}
 use Rattle.worksheet.specs.declared.sheet.Room.the-variants.{Fits, Short}

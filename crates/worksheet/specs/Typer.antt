@@ -5,11 +5,11 @@ use Prim.Native.Nat.{ℕ}
 use lib.ListN.{getD}
 use Rattle.rules.specs.Signature.{Signature}
 use Rattle.overloads.specs.Choice.{Choice, chosen, wrongCount, noneAfter, noneConcrete, resolve}
-use Rattle.domain.specs.declared.refusal.Refusal.{Refusal}
-use Rattle.domain.specs.declared.refusal.Refusal.the-variants.{EmptySet, WrongCount, NoRuleLeft}
-use Rattle.worksheet.specs.Tree.{Tree, Trees, leaf, call, none, more}
+use Rattle.scalars.specs.declared.refusal.Refusal.{Refusal}
+use Rattle.scalars.specs.declared.refusal.Refusal.the-variants.{EmptySet, WrongCount, NoRuleLeft}
+use Rattle.expressions.specs.Tree.{Tree, Trees, leaf, call, none, more}
 use Rattle.worksheet.specs.Places.{inside, behind, starts}
-use Rattle.worksheet.specs.Line.{Line, leafLine, callLines}
+use Rattle.machine.specs.Line.{Line, leafLine, callLines}
 
 -- the type of an expression and its lines, or a refusal
 pub data Typed : Type 0 where

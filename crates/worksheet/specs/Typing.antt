@@ -3,12 +3,12 @@
 use mathlib.Core.Bool.{Bool}
 use mathlib.Core.List.{List, [], _∷_}
 use Prim.Native.Nat.{ℕ}
-use Rattle.domain.specs.Paper.{Paper, accepted, refused}
+use Rattle.scalars.specs.Paper.{Paper, accepted, refused}
 use Rattle.rules.specs.Signature.{Signature}
 use Rattle.functions.specs.Functions.{functionCount, listingOf}
 use Rattle.worksheet.specs.declared.typer.TypeAnswer.{TypeAnswer}
 use Rattle.worksheet.specs.declared.typer.TypeAnswer.the-variants.{Typed, Refused}
-use Rattle.worksheet.specs.Reading.{Expression, read, refusedAs, expressionOf}
+use Rattle.expressions.specs.Reading.{Expression, read, refusedAs, expressionOf}
 use Rattle.worksheet.specs.Typer as typer
 use Rattle.worksheet.specs.Answer.{answer}
 

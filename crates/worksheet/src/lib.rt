@@ -1,16 +1,10 @@
-// Expressions of calls, their types and their worksheets, and the strict machine that runs worksheets.
-mod expression;
-mod line;
-mod machine;
+// The typer: the type of an expression and its worksheet, by the first pass of the crate `expressions` and the single calls of the
+// crate `overloads`. The strict machine that runs the worksheet stands in the crate `machine`.
 mod one_call;
 mod progress;
 mod sheet;
 mod stack;
 mod typer;
 
-pub use expression::Read;
-pub use expression::read_expression;
-pub use machine::Run;
-pub use machine::run_worksheet;
 pub use typer::TypeAnswer;
 pub use typer::type_expression;

@@ -3,21 +3,21 @@
 
 ghost use mathlib.Core.Path.{_≡_};
 ghost use Rattle.rules.specs.Rule.{argumentsOf};
-ghost use Rattle.worksheet.specs.Line.{encode, conversions};
+ghost use Rattle.machine.specs.Line.{encode, conversions};
 ghost use Rattle.worksheet.specs.Sheet.{Wrote};
 ghost use Rattle.worksheet.specs.SecondPass.{Within, placedAt, ConversionRoom, CallThere, CallTyped};
-use crate::expression::MOST_NODES;
-use crate::line::CALL_LINE;
-use crate::line::CONVERSION_LINE;
-use crate::line::SPARE;
 use crate::progress::Progress;
 use crate::progress::Verdict;
 use crate::sheet::Sheet;
 use crate::stack::Stack;
-use domain::Refusal;
+use expressions::MOST_NODES;
+use machine::CALL_LINE;
+use machine::CONVERSION_LINE;
+use machine::SPARE;
 use overloads::CallAnswer;
 use overloads::call_of;
 use rules::Rule;
+use scalars::Refusal;
 
 // The numbers of the two refusals of a single call that say something of its operands.
 const WRONG_COUNT: u8 = 5;

@@ -2,7 +2,7 @@
 
 use crate::sheet::Sheet;
 use crate::stack::Stack;
-use domain::Refusal;
+use scalars::Refusal;
 
 // What the second pass has found.
 pub(crate) enum Verdict {

@@ -10,11 +10,6 @@ ghost use lib.ListN.{length};
 ghost use Rattle.worksheet.specs.Answer.{bufferAfter};
 ghost use Rattle.worksheet.specs.SecondPass.{NodeThere, NodeTyped, ArgsThere, ArgsTyped, SheetFits, rootAnswer, rootBuffer};
 ghost use Rattle.worksheet.specs.Typing.{typing, answerOf};
-use crate::expression::LEAF;
-use crate::expression::Read;
-use crate::expression::read_expression;
-use crate::line::LEAF_LINE;
-use crate::line::SPARE;
 use crate::one_call::type_call;
 use crate::progress::Progress;
 use crate::progress::Verdict;
@@ -22,7 +17,12 @@ use crate::sheet::Room;
 use crate::sheet::Sheet;
 use crate::sheet::copy_out;
 use crate::stack::Stack;
-use domain::Refusal;
+use expressions::LEAF;
+use expressions::Read;
+use expressions::read_expression;
+use machine::LEAF_LINE;
+use machine::SPARE;
+use scalars::Refusal;
 
 // The answer to an expression.
 pub enum TypeAnswer {

@@ -1,10 +1,10 @@
 -- `azwukran_call` meets its contract: what `call_of` answers is packed, case by case, as the paper of a call says.
 -- Assumes nothing.
 use mathlib.Core.Path.{sym, _∙_}
-use Rattle.bindings.specs.Packing.{callPacked}
+use Rattle.packing.specs.Packing.{callPacked}
 use Rattle.overloads.specs.CallPaper.{callPaper}
 use Rattle.overloads.specs.declared.call.CallAnswer.{CallAnswer}
-use Rattle.bindings.proofs.Answers.{packs}
+use Rattle.packing.proofs.Packs.{packs}
 use borrow.Author.Needs.{needs}
 use Rattle.bindings.proofs.azwukran_call.Statement.{statement}
 use Rattle.bindings.proofs.azwukran_call.Tie as tie

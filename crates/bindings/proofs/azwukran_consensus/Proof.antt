@@ -2,10 +2,10 @@
 -- case, as the paper of a scalar says.
 -- Assumes nothing.
 use mathlib.Core.Path.{sym, _∙_}
-use Rattle.bindings.specs.Packing.{valuePacked}
-use Rattle.domain.specs.Paper.{scalarPaper}
-use Rattle.domain.specs.declared.scalar_set.ScalarAnswer.{ScalarAnswer}
-use Rattle.bindings.proofs.Answers.{packs}
+use Rattle.packing.specs.Packing.{valuePacked}
+use Rattle.scalars.specs.Paper.{scalarPaper}
+use Rattle.scalars.specs.declared.scalar_set.ScalarAnswer.{ScalarAnswer}
+use Rattle.packing.proofs.Packs.{packs}
 use borrow.Author.Needs.{needs}
 use Rattle.bindings.proofs.azwukran_consensus.Statement.{statement}
 use Rattle.bindings.proofs.azwukran_consensus.Tie as tie

@@ -1,8 +1,8 @@
 -- `azwukran_rule` meets its contract: what `rule_at` answers is packed.
 -- Assumes nothing.
 use mathlib.Core.Path.{ap, _∙_}
-use Rattle.bindings.specs.Packing.{rulePacked}
-use Rattle.rules.specs.SetPaper.{rulePaper}
+use Rattle.packing.specs.Packing.{rulePacked}
+use Rattle.rules.specs.RulePaper.{rulePaper}
 use Rattle.rules.specs.declared.rule.RuleAnswer.{RuleAnswer}
 use borrow.Author.Needs.{needs}
 use Rattle.bindings.proofs.azwukran_rule.Statement.{statement}

@@ -3,10 +3,10 @@
 -- Assumes nothing.
 use mathlib.Core.Path.{sym, _∙_}
 use native.Mathlib.Omega.{arith}
-use Rattle.bindings.specs.Packing.{runPacked}
+use Rattle.packing.specs.Packing.{runPacked}
 use Rattle.functions.specs.Functions.{listingOf}
 use Rattle.bindings.proofs.Operands.{few-left}
-use Rattle.bindings.proofs.Answers.{packs}
+use Rattle.packing.proofs.Packs.{packs}
 use borrow.Author.Needs.{needs}
 use Rattle.bindings.proofs.azwukran_run.Statement.{statement}
 use Rattle.bindings.proofs.azwukran_run.Tie as tie

@@ -2,10 +2,10 @@
 -- refusal.
 -- Assumes nothing.
 use mathlib.Core.Path.{sym, _∙_, refl}
-use Rattle.bindings.specs.Packing.{survivorsPacked}
+use Rattle.packing.specs.Packing.{survivorsPacked}
 use Rattle.overloads.specs.CallPaper.{survivorsPaper}
 use Rattle.overloads.specs.declared.call.Survivors.{Survivors}
-use Rattle.bindings.proofs.Answers.{packs}
+use Rattle.packing.proofs.Packs.{packs}
 use borrow.Author.Needs.{needs}
 use Rattle.bindings.proofs.azwukran_survivors.Statement.{statement}
 use Rattle.bindings.proofs.azwukran_survivors.Tie as tie

@@ -2,10 +2,10 @@
 -- buffer is left as that function leaves it.
 -- Assumes nothing.
 use mathlib.Core.Path.{sym, _∙_}
-use Rattle.bindings.specs.Packing.{valuePacked}
+use Rattle.packing.specs.Packing.{valuePacked}
 use Rattle.worksheet.specs.Typing.{typePaper}
 use Rattle.worksheet.specs.declared.typer.TypeAnswer.{TypeAnswer}
-use Rattle.bindings.proofs.Answers.{packs}
+use Rattle.packing.proofs.Packs.{packs}
 use borrow.Author.Needs.{needs}
 use Rattle.bindings.proofs.azwukran_type.Statement.{statement}
 use Rattle.bindings.proofs.azwukran_type.Tie as tie

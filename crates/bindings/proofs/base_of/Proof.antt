@@ -1,7 +1,7 @@
 -- `base_of` meets its contract: its test for 255 is the one that `baseOf` makes.
 -- Assumes nothing.
 use borrow.Author.Tests.{eq-eqb, ne-eqb}
-use Rattle.bindings.specs.Packing.{baseOf}
+use Rattle.packing.specs.Packing.{baseOf}
 use Rattle.bindings.proofs.base_of.Statement.{statement}
 use Rattle.bindings.proofs.base_of.Tie as tie
 

@@ -1,6 +1,6 @@
 -- `azwukran_list_preferred` meets its contract: the first member is packed, or why there is none.
 -- Assumes nothing.
-use Rattle.bindings.specs.Packing.{callPacked}
+use Rattle.packing.specs.Packing.{callPacked}
 use Rattle.overloads.specs.List.{listPreferred}
 use Rattle.overloads.specs.CallPaper.{chosenPaper}
 use Rattle.overloads.specs.declared.list.ChosenAnswer.{ChosenAnswer}

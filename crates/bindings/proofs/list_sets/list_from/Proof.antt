@@ -6,7 +6,7 @@ use Prim.Native.Nat.{_/_}
 use denote.Ref.{now}
 use lib.ListN.{length}
 use borrow.Author.Tests.{eq-eqb, ne-eqb}
-use Rattle.domain.specs.declared.answer.Verdict.the-variants.{Accepted}
+use Rattle.scalars.specs.declared.answer.Verdict.the-variants.{Accepted}
 use Rattle.overloads.specs.List.{acceptedList, refusedList}
 use Rattle.rules.specs.declared.rule.Rule.{Rule}
 use Rattle.bindings.specs.Sets.{listFrom}

@@ -1,9 +1,9 @@
 -- `pack_chosen` meets its contract: the answer is packed, case by case, as its paper says.
 -- Assumes nothing.
-use Rattle.bindings.specs.Packing.{callPacked}
+use Rattle.packing.specs.Packing.{callPacked}
 use Rattle.overloads.specs.CallPaper.{chosenPaper}
 use Rattle.overloads.specs.declared.list.ChosenAnswer.{ChosenAnswer}
-use Rattle.bindings.proofs.Answers.{packs}
+use Rattle.packing.proofs.Packs.{packs}
 use borrow.Author.Needs.{needs}
 use Rattle.bindings.proofs.list_sets.pack_chosen.Statement.{statement}
 use Rattle.bindings.proofs.list_sets.pack_chosen.Tie as tie

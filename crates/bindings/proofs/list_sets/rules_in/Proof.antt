@@ -5,7 +5,7 @@ use Prim.Native.Nat.{_-_, _≤_}
 use native.Mathlib.Omega.{arith}
 use lib.ListN.{length, drop, length-set}
 use lib.Seq.{sets}
-use Rattle.domain.proofs.Fills.{fill-step, fill-end}
+use Rattle.scalars.proofs.Fills.{fill-step, fill-end}
 use Rattle.bindings.specs.Sets.{rulesIn}
 use Rattle.bindings.proofs.ByteRules.{rules-next, rules-past, rules-filled}
 use Rattle.bindings.proofs.list_sets.rules_in.Statement.{statement}

@@ -1,13 +1,13 @@
 -- `azwukran_regular_arg` meets its contract: what the set answers to an argument is packed, or why it is no set.
 -- Assumes nothing.
 use mathlib.Core.Path.{sym, ap, _∙_}
-use Rattle.bindings.specs.Packing.{regularPacked}
-use Rattle.rules.specs.SetPaper.{regularPaper}
+use Rattle.packing.specs.Packing.{regularPacked}
+use Rattle.regular.specs.SetPaper.{regularPaper}
 use Rattle.bindings.specs.Sets.{onRegular}
-use Rattle.rules.specs.Regular.{regularArg}
-use Rattle.rules.specs.declared.regular.RegularAnswer.{RegularAnswer}
-use Rattle.rules.specs.declared.regular.RegularAnswer.the-variants as regular
-use Rattle.bindings.proofs.Answers.{packs}
+use Rattle.regular.specs.Regular.{regularArg}
+use Rattle.regular.specs.declared.regular.RegularAnswer.{RegularAnswer}
+use Rattle.regular.specs.declared.regular.RegularAnswer.the-variants as regular
+use Rattle.packing.proofs.Packs.{packs}
 use borrow.Author.Needs.{needs}
 use Rattle.bindings.proofs.regular_sets.azwukran_regular_arg.Statement.{statement}
 use Rattle.bindings.proofs.regular_sets.azwukran_regular_arg.Tie as tie

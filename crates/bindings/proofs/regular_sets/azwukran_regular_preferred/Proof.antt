@@ -1,14 +1,14 @@
 -- `azwukran_regular_preferred` meets its contract: the rule that the set prefers is packed, or why there is none.
 -- Assumes nothing.
 use mathlib.Core.Path.{sym, ap, _∙_}
-use Rattle.bindings.specs.Packing.{rulePacked}
-use Rattle.rules.specs.SetPaper.{rulePaper}
+use Rattle.packing.specs.Packing.{rulePacked}
+use Rattle.rules.specs.RulePaper.{rulePaper}
 use Rattle.rules.specs.declared.rule.RuleAnswer.{RuleAnswer}
 use Rattle.rules.specs.declared.rule.RuleAnswer.the-variants as rule
 use Rattle.bindings.specs.Sets.{onRegular}
-use Rattle.rules.specs.Regular.{regularPreferred}
-use Rattle.rules.specs.declared.regular.RegularAnswer.{RegularAnswer}
-use Rattle.bindings.proofs.Answers.{packs}
+use Rattle.regular.specs.Regular.{regularPreferred}
+use Rattle.regular.specs.declared.regular.RegularAnswer.{RegularAnswer}
+use Rattle.packing.proofs.Packs.{packs}
 use borrow.Author.Needs.{needs}
 use Rattle.bindings.proofs.regular_sets.azwukran_regular_preferred.Statement.{statement}
 use Rattle.bindings.proofs.regular_sets.azwukran_regular_preferred.Tie as tie

@@ -1,15 +1,15 @@
 -- `azwukran_regular_rule` meets its contract: the rule at the index of the set's listing is packed, or why there is none.
 -- Assumes nothing.
 use mathlib.Core.Path.{sym, ap, _∙_}
-use Rattle.bindings.specs.Packing.{rulePacked}
-use Rattle.rules.specs.SetPaper.{rulePaper}
+use Rattle.packing.specs.Packing.{rulePacked}
+use Rattle.rules.specs.RulePaper.{rulePaper}
 use Rattle.rules.specs.declared.rule.RuleAnswer.{RuleAnswer}
 use Rattle.rules.specs.declared.rule.RuleAnswer.the-variants as rule
 use Rattle.bindings.specs.Sets.{onRegular, listedAt}
-use Rattle.rules.specs.Regular.{regularListing}
-use Rattle.rules.specs.declared.regular.RegularAnswer.{RegularAnswer}
-use Rattle.rules.specs.declared.regular.Regular.{Regular}
-use Rattle.bindings.proofs.Answers.{packs}
+use Rattle.regular.specs.Regular.{regularListing}
+use Rattle.regular.specs.declared.regular.RegularAnswer.{RegularAnswer}
+use Rattle.regular.specs.declared.regular.Regular.{Regular}
+use Rattle.packing.proofs.Packs.{packs}
 use borrow.Author.Needs.{needs}
 use Rattle.bindings.proofs.regular_sets.azwukran_regular_rule.Statement.{statement}
 use Rattle.bindings.proofs.regular_sets.azwukran_regular_rule.Tie as tie

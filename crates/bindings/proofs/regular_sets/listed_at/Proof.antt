@@ -3,7 +3,7 @@
 use mathlib.Core.Path.{_≡_, sym, ap, _∙_}
 use native.Mathlib.Omega.{arith}
 use lib.ListN.{length}
-use Rattle.domain.proofs.Masks.{mapped-long}
+use Rattle.scalars.proofs.Masks.{mapped-long}
 use Rattle.rules.specs.declared.listing.Listing.{Listing}
 use Rattle.rules.proofs.Records.{zeroRule}
 use Rattle.bindings.proofs.ListedRules.{listing-few, at-refused, at-unknown, at-listed}

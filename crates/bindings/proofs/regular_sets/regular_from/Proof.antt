@@ -3,8 +3,8 @@
 use mathlib.Core.Path.{ap}
 use borrow.Author.Tests.{lt-ltb, le-ltb}
 use Rattle.bindings.specs.Sets.{regularFrom}
-use Rattle.rules.specs.declared.regular.ConclusionRule.{ConclusionRule}
-use Rattle.rules.specs.declared.regular.RegularAnswer.the-variants as regular
+use Rattle.regular.specs.declared.regular.ConclusionRule.{ConclusionRule}
+use Rattle.regular.specs.declared.regular.RegularAnswer.the-variants as regular
 use borrow.Author.Needs.{needs}
 use Rattle.bindings.proofs.regular_sets.regular_from.Statement.{statement}
 use Rattle.bindings.proofs.regular_sets.regular_from.Tie as tie

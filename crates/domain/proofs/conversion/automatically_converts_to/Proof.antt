@@ -2,7 +2,7 @@
 -- Assumes nothing.
 use mathlib.Core.Path.{sym, _∙_}
 use borrow.Author.Tests.{lt-ltb, le-ltb}
-use Rattle.domain.proofs.Scalars.{known-converts}
+use Rattle.scalars.proofs.Scalars.{known-converts}
 use Rattle.domain.specs.Conversion.{convertsTo}
 use borrow.Author.Needs.{needs}
 use Rattle.domain.proofs.conversion.automatically_converts_to.Statement.{statement}

@@ -1,6 +1,6 @@
 -- `combined` meets its contract: the constant is the table of all combinations, computed and not written out again.
 -- Assumes nothing.
-use Rattle.domain.specs.Domain.{converts}
+use Rattle.scalars.specs.Domain.{converts}
 use Rattle.domain.specs.Conversion.{combination}
 use Rattle.domain.proofs.Combinations.{table, table-rule}
 use borrow.Author.Needs.{needs}

@@ -5,7 +5,7 @@ use Prim.Native.Nat.{ℕ, _/_, _%_, _^_}
 use lib.Dec.{eqb}
 use borrow.Author.Needs.{needs}
 use borrow.Author.Tests.{lt-ltb, le-ltb}
-use Rattle.domain.proofs.Scalars.{reached}
+use Rattle.scalars.proofs.Scalars.{reached}
 use Rattle.domain.proofs.conversion.scalar_converts.Statement.{statement}
 use Rattle.domain.proofs.conversion.scalar_converts.Tie as tie
 

@@ -5,7 +5,7 @@ use mathlib.Core.Path.{_≡_}
 use native.Mathlib.Nat.{zero-add}
 use native.Mathlib.Omega.{arith}
 use lib.ListN.{length, drop}
-use Rattle.domain.specs.Domain.{firstUnknown}
+use Rattle.scalars.specs.Domain.{firstUnknown}
 use Rattle.domain.proofs.Codes.{unknown-here, unknown-later, unknown-none}
 use Rattle.domain.proofs.type_code.first_unknown.Statement.{statement}
 use Rattle.domain.proofs.type_code.first_unknown.Tie as tie

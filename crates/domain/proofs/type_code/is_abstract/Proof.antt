@@ -1,7 +1,7 @@
 -- `is_abstract` meets its contract.
 -- Assumes nothing.
 use borrow.Author.Tests.{lt-ltb, le-ltb}
-use Rattle.domain.specs.Domain.{isAbstract}
+use Rattle.scalars.specs.Domain.{isAbstract}
 use Rattle.domain.proofs.type_code.is_abstract.Statement.{statement}
 use Rattle.domain.proofs.type_code.is_abstract.Tie as tie
 

@@ -6,9 +6,9 @@ use native.Mathlib.Omega.{arith}
 use lib.Count.{trailingZeros}
 use lib.Dec.{lit≤}
 use lib.ListN.{length, getD}
-use Rattle.domain.specs.Mask.{upTo, bits}
-use Rattle.domain.proofs.Masks.{Turn}
-use Rattle.domain.proofs.Bits.{bits-turn}
+use Rattle.scalars.specs.Mask.{upTo, bits}
+use Rattle.scalars.proofs.Masks.{Turn}
+use Rattle.scalars.proofs.Bits.{bits-turn}
 use Rattle.functions.proofs.Ranks.{some-bit, rank-left, rank-same, rank-first}
 use Rattle.functions.proofs.full_listing.ranked.Statement.{statement}
 use Rattle.functions.proofs.full_listing.ranked.Tie as tie

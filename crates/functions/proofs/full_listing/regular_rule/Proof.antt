@@ -3,7 +3,7 @@
 use mathlib.Core.Path.{ap₂, _∙_}
 use Prim.Native.Nat.{ℕ, _+_, _*_}
 use native.Mathlib.Omega.{arith}
-use Rattle.rules.specs.Regular.{regularRule}
+use Rattle.regular.specs.Regular.{regularRule}
 use Rattle.functions.proofs.Ranks.{some-scalar, few-scalars, few-constructors, scalar-rank, constructor-rank, scalar-below, constructor-below, rank-past, rank-here}
 use Rattle.functions.proofs.full_listing.regular_rule.Statement.{statement}
 use Rattle.functions.proofs.full_listing.regular_rule.Tie as tie

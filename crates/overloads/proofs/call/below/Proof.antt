@@ -3,7 +3,7 @@
 use lib.Pow.{pow-pos}
 use mathlib.Core.Path.{subst⁻¹}
 use Prim.Native.Nat.{ℕ, _<_}
-use Rattle.domain.proofs.Masks.{bit-is}
+use Rattle.scalars.proofs.Masks.{bit-is}
 use Rattle.overloads.proofs.Positions.{rank-ones}
 use borrow.Author.Needs.{needs}
 use Rattle.overloads.proofs.call.below.Statement.{statement}

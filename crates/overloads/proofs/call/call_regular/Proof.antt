@@ -4,10 +4,10 @@ use mathlib.Core.Path.{sym, ap, _∙_, subst}
 use Prim.Native.Nat.{_+_, _-_}
 use native.Mathlib.Omega.{arith}
 use lib.ListN.{length}
-use Rattle.domain.specs.Mask.{bits}
-use Rattle.rules.specs.Regular.{Known, emptySet?}
+use Rattle.scalars.specs.Mask.{bits}
+use Rattle.regular.specs.Regular.{Known, emptySet?}
 use Rattle.overloads.specs.Call.{preferredIn}
-use Rattle.rules.specs.declared.regular.Regular.{Regular}
+use Rattle.regular.specs.declared.regular.Regular.{Regular}
 use Rattle.overloads.proofs.RegularCalls.{Reached, regular-wrong, reached-start, reached-out, reached-on, reached-end, reached-concrete, concrete-left}
 use Rattle.overloads.proofs.call.call_regular.Statement.{statement}
 use Rattle.overloads.proofs.call.call_regular.Tie as tie

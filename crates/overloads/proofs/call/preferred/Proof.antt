@@ -5,7 +5,7 @@ use Prim.Native.Nat.{_<_}
 use lib.Count.{trailingZeros}
 use native.Mathlib.Omega.{arith}
 use Rattle.overloads.specs.Call.{placed}
-use Rattle.rules.proofs.Regulars.{lowest-known}
+use Rattle.regular.proofs.Regulars.{lowest-known}
 use Rattle.overloads.proofs.RegularResolving.{preferred-none, preferred-some}
 use borrow.Author.Needs.{needs}
 use Rattle.overloads.proofs.call.preferred.Statement.{statement}

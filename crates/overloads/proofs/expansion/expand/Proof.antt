@@ -5,11 +5,11 @@ use Prim.Native.Nat.{_*_, _≤_}
 use native.Mathlib.Omega.{arith}
 use lib.Count.{ones}
 use lib.ListN.{length}
-use Rattle.domain.specs.declared.answer.Verdict.the-variants.{Accepted}
-use Rattle.rules.specs.Regular.{regularVerdict, codesOf}
+use Rattle.scalars.specs.declared.answer.Verdict.the-variants.{Accepted}
+use Rattle.regular.specs.Regular.{regularVerdict, codesOf}
 use Rattle.overloads.specs.Expansion.{expanded}
-use Rattle.rules.proofs.Regulars.{accepted-known, codes-count}
-use Rattle.rules.proofs.Listings.{codes-few}
+use Rattle.regular.proofs.Regulars.{accepted-known, codes-count}
+use Rattle.regular.proofs.Listings.{codes-few}
 use Rattle.overloads.proofs.Expanding.{expand-many, expand-refused, expand-list}
 use borrow.Author.Needs.{needs}
 use Rattle.overloads.proofs.expansion.expand.Statement.{statement}

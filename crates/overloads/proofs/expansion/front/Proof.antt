@@ -7,10 +7,10 @@ use lib.ListN.{length, take, drop, length-replicate, length-set}
 use lib.Seq.{sets}
 use borrow.Author.Needs.{needs}
 use Rattle.rules.specs.Rule.{blankRule}
-use Rattle.domain.proofs.Masks.{mapped-long}
+use Rattle.scalars.proofs.Masks.{mapped-long}
 use Rattle.rules.proofs.Records.{zeroRule}
 use Rattle.functions.proofs.Prefixes.{next, ended}
-use Rattle.domain.proofs.Fills.{fill-step, fill-end, filled-whole}
+use Rattle.scalars.proofs.Fills.{fill-step, fill-end, filled-whole}
 use Rattle.overloads.proofs.expansion.front.Statement.{statement}
 use Rattle.overloads.proofs.expansion.front.Tie as tie
 

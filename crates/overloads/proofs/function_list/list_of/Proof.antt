@@ -6,10 +6,10 @@ use Prim.Native.Nat.{_-_, _≤_}
 use native.Mathlib.Omega.{arith}
 use lib.ListN.{length, drop, length-set, length-map}
 use lib.Seq.{sets}
-use Rattle.domain.specs.Mask.{padded}
+use Rattle.scalars.specs.Mask.{padded}
 use Rattle.rules.specs.Rule.{blankRule, ruleOf}
 use Rattle.functions.specs.Functions.{listedRules}
-use Rattle.domain.proofs.Fills.{filled, fill-step, fill-end}
+use Rattle.scalars.proofs.Fills.{filled, fill-step, fill-end}
 use Rattle.functions.proofs.Runs.{next-at, past-at}
 use Rattle.functions.proofs.Places.{few-listed}
 use Rattle.overloads.proofs.ListsOf.{list-built}

@@ -5,9 +5,9 @@ use native.Mathlib.Omega.{arith}
 use lib.ListN.{length, take, drop}
 use borrow.Author.Needs.{needs}
 use borrow.Author.Tests.{lt-leb, le-leb}
-use Rattle.domain.specs.Mask.{every}
+use Rattle.scalars.specs.Mask.{every}
 use Rattle.rules.specs.Rule.{shortRule}
-use Rattle.domain.proofs.Masks.{mapped-long}
+use Rattle.scalars.proofs.Masks.{mapped-long}
 use Rattle.rules.proofs.Records.{zeroRule}
 use Rattle.functions.proofs.Prefixes.{every-fails, every-next, every-ends}
 use Rattle.overloads.proofs.list.all_short.Statement.{statement}

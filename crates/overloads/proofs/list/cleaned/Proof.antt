@@ -7,12 +7,12 @@ use native.Mathlib.Omega.{arith}
 use lib.ListN.{length, take, drop, length-set, length-map}
 use lib.Seq.{sets, length-take-le}
 use borrow.Author.Needs.{needs}
-use Rattle.domain.specs.Mask.{padded}
+use Rattle.scalars.specs.Mask.{padded}
 use Rattle.rules.specs.Rule.{blankRule, signatureOf, ruleOf}
 use Rattle.rules.specs.declared.rule.Rule.{Rule}
-use Rattle.domain.proofs.Fills.{filled, fill-step, fill-end}
+use Rattle.scalars.proofs.Fills.{filled, fill-step, fill-end}
 use Rattle.rules.proofs.Records.{zeroRule}
-use Rattle.domain.proofs.Masks.{mapped-long}
+use Rattle.scalars.proofs.Masks.{mapped-long}
 use Rattle.functions.proofs.Prefixes.{next, ended}
 use Rattle.overloads.proofs.list.cleaned.Statement.{statement}
 use Rattle.overloads.proofs.list.cleaned.Tie as tie

@@ -4,7 +4,7 @@ use native.Mathlib.Omega.{arith}
 use lib.Pow.{pow-pos}
 use borrow.Author.Needs.{needs}
 use borrow.Author.Tests.{le-leb, lt-leb}
-use Rattle.domain.proofs.Masks.{bit-is}
+use Rattle.scalars.proofs.Masks.{bit-is}
 use Rattle.overloads.proofs.list.len_to_full_mask.Statement.{statement}
 use Rattle.overloads.proofs.list.len_to_full_mask.Tie as tie
 

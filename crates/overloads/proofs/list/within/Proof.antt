@@ -7,7 +7,7 @@ use lib.Dec.{ltb}
 use lib.Pow.{pow-mono}
 use borrow.Author.Needs.{needs}
 use borrow.Author.Tests.{lt-ltb}
-use Rattle.domain.proofs.Masks.{bit-is}
+use Rattle.scalars.proofs.Masks.{bit-is}
 use Rattle.overloads.proofs.list.within.Statement.{statement}
 use Rattle.overloads.proofs.list.within.Tie as tie
 

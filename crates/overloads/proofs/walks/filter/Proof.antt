@@ -8,10 +8,10 @@ use native.Mathlib.Nat.{zero-add}
 use native.Mathlib.Omega.{arith}
 use lib.Count.{trailingZeros}
 use lib.ListN.{getD}
-use Rattle.domain.specs.Mask.{sift}
+use Rattle.scalars.specs.Mask.{sift}
 use Rattle.rules.specs.Rule.{passes}
 use Rattle.overloads.specs.List.{signatures, kept}
-use Rattle.domain.proofs.Masks.{gain, sift-le}
+use Rattle.scalars.proofs.Masks.{gain, sift-le}
 use Rattle.rules.proofs.Records.{zeroRule}
 use Rattle.overloads.proofs.Lists.{Member, member}
 use Rattle.overloads.proofs.walks.filter.Statement.{statement}

@@ -8,13 +8,13 @@ use native.Mathlib.Omega.{arith}
 use lib.Count.{trailingZeros}
 use lib.ListN.{length, getD, length-set, length-map, length-replicate}
 use lib.Seq.{sets}
-use Rattle.domain.specs.Mask.{select, padded}
+use Rattle.scalars.specs.Mask.{select, padded}
 use Rattle.rules.specs.Rule.{blankRule, ruleOf}
 use Rattle.rules.specs.Listing.{acceptedListing}
 use Rattle.overloads.specs.List.{signatures, listing}
-use Rattle.domain.specs.declared.answer.CountAnswer.the-variants.{Count}
+use Rattle.scalars.specs.declared.answer.CountAnswer.the-variants.{Count}
 use Rattle.rules.specs.declared.rule.Rule.{Rule}
-use Rattle.domain.proofs.Fills.{filled, fill-step, fill-end}
+use Rattle.scalars.proofs.Fills.{filled, fill-step, fill-end}
 use Rattle.rules.proofs.Records.{zeroRule}
 use Rattle.overloads.proofs.Lists.{Member, member, none-left, listing-length}
 use Rattle.overloads.proofs.walks.listed.Statement.{statement}

@@ -6,10 +6,10 @@ use Prim.Native.Nat.{_*_, _%_, _^_, _<_, max}
 use native.Mathlib.Omega.{arith}
 use lib.Count.{trailingZeros}
 use lib.ListN.{getD}
-use Rattle.domain.specs.Mask.{select}
+use Rattle.scalars.specs.Mask.{select}
 use Rattle.rules.specs.Verdict.{longest, countOf}
 use Rattle.overloads.specs.List.{signatures, listing}
-use Rattle.domain.specs.declared.answer.CountAnswer.the-variants.{Count}
+use Rattle.scalars.specs.declared.answer.CountAnswer.the-variants.{Count}
 use Rattle.rules.proofs.Records.{zeroRule}
 use Rattle.overloads.proofs.Lists.{Member, member, none-left, listing-none, counted}
 use Rattle.overloads.proofs.walks.longest.Statement.{statement}

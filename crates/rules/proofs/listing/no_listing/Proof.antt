@@ -3,7 +3,7 @@ use mathlib.Core.Path.{ap}
 use mathlib.Core.List.{List}
 use borrow.Author.Needs.{needs}
 use Rattle.rules.specs.Listing.{refusedListing}
-use Rattle.domain.specs.declared.answer.CountAnswer.the-variants.{Refused}
+use Rattle.scalars.specs.declared.answer.CountAnswer.the-variants.{Refused}
 use Rattle.rules.specs.declared.rule.Rule.{Rule}
 use Rattle.rules.proofs.listing.no_listing.Statement.{statement}
 use Rattle.rules.proofs.listing.no_listing.Tie as tie

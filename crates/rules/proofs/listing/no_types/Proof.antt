@@ -4,7 +4,7 @@ use mathlib.Core.List.{List}
 use Prim.Native.Nat.{ℕ}
 use borrow.Author.Needs.{needs}
 use Rattle.rules.specs.Listing.{refusedTypes}
-use Rattle.domain.specs.declared.answer.CountAnswer.the-variants.{Refused}
+use Rattle.scalars.specs.declared.answer.CountAnswer.the-variants.{Refused}
 use Rattle.rules.proofs.listing.no_types.Statement.{statement}
 use Rattle.rules.proofs.listing.no_types.Tie as tie
 

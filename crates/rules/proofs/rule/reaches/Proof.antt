@@ -6,7 +6,7 @@ use native.Mathlib.Omega.{arith}
 use borrow.Author.Needs.{needs}
 use borrow.Author.Tests.{lt-ltb, le-ltb, eq-eqb, ne-eqb}
 use Rattle.rules.specs.Signature.{reaches}
-use Rattle.domain.proofs.Scalars.{known-converts}
+use Rattle.scalars.proofs.Scalars.{known-converts}
 use Rattle.rules.proofs.rule.reaches.Statement.{statement}
 use Rattle.rules.proofs.rule.reaches.Tie as tie
 

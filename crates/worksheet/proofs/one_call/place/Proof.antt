@@ -3,7 +3,7 @@
 use Prim.Native.Nat.{_+_, _<_, _≤_}
 use native.Mathlib.Omega.{arith}
 use borrow.Author.Needs.{needs}
-use Rattle.worksheet.specs.Machine.{mostOperands}
+use Rattle.machine.specs.Machine.{mostOperands}
 use Rattle.worksheet.proofs.Placing.{at-count, at-operand, at-empty, operand-there}
 use Rattle.worksheet.proofs.one_call.place.Statement.{statement}
 use Rattle.worksheet.proofs.one_call.place.Tie as tie

@@ -5,7 +5,7 @@ use mathlib.Core.Path.{_≡_, sym, _∙_}
 use native.Mathlib.Omega.{arith}
 use borrow.Author.Needs.{needs}
 use lib.ListN.{length}
-use Rattle.worksheet.specs.Machine.{mostOperands}
+use Rattle.machine.specs.Machine.{mostOperands}
 use Rattle.worksheet.proofs.CallFacts.{rule-takes, refusal-within}
 use Rattle.worksheet.proofs.Calls.{part-length, conversion-room, line-room, call-refused, call-ruled}
 use Rattle.worksheet.proofs.one_call.type_call.Statement.{statement}

@@ -5,7 +5,7 @@ use lib.Count.{ones}
 use lib.Dec.{eqb}
 use mathlib.Core.Path.{ap}
 use Prim.Native.Nat.{ℕ}
-use Rattle.domain.proofs.Bits.{bits-count}
+use Rattle.scalars.proofs.Bits.{bits-count}
 use Rattle.domain.proofs.constructor_set.ConstructorSet.is_singleton.Statement.{statement}
 use Rattle.domain.proofs.constructor_set.ConstructorSet.is_singleton.Tie as tie
 

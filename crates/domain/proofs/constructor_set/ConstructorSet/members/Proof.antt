@@ -5,8 +5,8 @@ use Prim.Native.Nat.{_^_}
 use native.Mathlib.Omega.{arith}
 use lib.Dec.{lit≤}
 use borrow.Author.Tests.{lt-ltb, le-ltb}
-use Rattle.domain.specs.OneBits.{membersWithin, listed}
-use Rattle.domain.proofs.Bits.{bits-within}
+use Rattle.scalars.specs.OneBits.{membersWithin, listed}
+use Rattle.scalars.proofs.Bits.{bits-within}
 use borrow.Author.Needs.{needs}
 use Rattle.domain.proofs.constructor_set.ConstructorSet.members.Statement.{statement}
 use Rattle.domain.proofs.constructor_set.ConstructorSet.members.Tie as tie

@@ -3,7 +3,7 @@
 use native.Mathlib.Omega.{arith}
 use borrow.Author.Tests.{lt-ltb, le-ltb}
 use Rattle.domain.specs.Constructor.{singletonOfCode}
-use Rattle.domain.proofs.Masks.{bit-is}
+use Rattle.scalars.proofs.Masks.{bit-is}
 use borrow.Author.Needs.{needs}
 use Rattle.domain.proofs.constructor_set.ConstructorSet.singleton.Statement.{statement}
 use Rattle.domain.proofs.constructor_set.ConstructorSet.singleton.Tie as tie

@@ -4,7 +4,7 @@ use mathlib.Core.Path.{sym, ap, _∙_}
 use native.Mathlib.Omega.{arith}
 use lib.Count.{trailing-le}
 use borrow.Author.Tests.{le-ltb, not-true, not-false}
-use Rattle.domain.specs.Mask.{bits}
+use Rattle.scalars.specs.Mask.{bits}
 use Rattle.domain.specs.Constructor.{setSize}
 use Rattle.domain.specs.declared.constructor_set.SizeAnswer.the-variants.{Size}
 use Rattle.domain.proofs.Constructors.{size-one, size-several}

@@ -4,7 +4,7 @@ use lib.ListN.{length}
 use borrow.Author.Needs.{needs}
 use Rattle.rules.specs.Listing.{refusedTypes}
 use Rattle.overloads.specs.List.{listAllowed, allowedOf}
-use Rattle.domain.proofs.Masks.{mapped-long}
+use Rattle.scalars.proofs.Masks.{mapped-long}
 use Rattle.overloads.proofs.Verdicts.{on-refused, on-accepted, tested-valid, tested-listing}
 use Rattle.overloads.proofs.list.List.allowed_args.Statement.{statement}
 use Rattle.overloads.proofs.list.List.allowed_args.Tie as tie

@@ -8,12 +8,12 @@ use lib.Dec.{ltb}
 use lib.ListN.{length}
 use borrow.Author.Needs.{needs}
 use borrow.Author.Tests.{not-true, not-false, le-leb, lt-leb}
-use Rattle.domain.specs.Mask.{every, padded}
+use Rattle.scalars.specs.Mask.{every, padded}
 use Rattle.rules.specs.Rule.{blankRule, signatureOf, ruleOf, knownRule, shortRule}
 use Rattle.overloads.specs.List.{held, signatures, cleanList, acceptedList}
 use Rattle.overloads.specs.declared.list.List.{List}
 use Rattle.rules.specs.declared.rule.Rule.{Rule}
-use Rattle.domain.proofs.Masks.{mapped-long}
+use Rattle.scalars.proofs.Masks.{mapped-long}
 use Rattle.functions.proofs.Prefixes.{take-min}
 use Rattle.overloads.proofs.Verdicts.{checked-by}
 use Rattle.overloads.proofs.list.List.checked.Statement.{statement}

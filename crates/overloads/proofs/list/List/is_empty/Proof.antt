@@ -6,8 +6,8 @@ use lib.ListN.{length}
 use borrow.Author.Needs.{needs}
 use Rattle.overloads.specs.List.{listEmpty}
 use Rattle.rules.specs.Verdict.{emptyOf}
-use Rattle.domain.specs.declared.answer.Test.the-variants.{Refused}
-use Rattle.domain.proofs.Masks.{mapped-long}
+use Rattle.scalars.specs.declared.answer.Test.the-variants.{Refused}
+use Rattle.scalars.proofs.Masks.{mapped-long}
 use Rattle.overloads.proofs.Lists.{listing-none}
 use Rattle.overloads.proofs.Verdicts.{on-refused, on-accepted, tested-some}
 use Rattle.overloads.proofs.list.List.is_empty.Statement.{statement}

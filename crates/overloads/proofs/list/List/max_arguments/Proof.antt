@@ -4,8 +4,8 @@ use lib.ListN.{length}
 use borrow.Author.Needs.{needs}
 use Rattle.overloads.specs.List.{listCount}
 use Rattle.rules.specs.Verdict.{countOf}
-use Rattle.domain.specs.declared.answer.CountAnswer.the-variants.{Refused}
-use Rattle.domain.proofs.Masks.{mapped-long}
+use Rattle.scalars.specs.declared.answer.CountAnswer.the-variants.{Refused}
+use Rattle.scalars.proofs.Masks.{mapped-long}
 use Rattle.overloads.proofs.Verdicts.{on-refused, on-accepted, tested-valid, tested-listing}
 use Rattle.overloads.proofs.list.List.max_arguments.Statement.{statement}
 use Rattle.overloads.proofs.list.List.max_arguments.Tie as tie

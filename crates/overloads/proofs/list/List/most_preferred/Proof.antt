@@ -5,7 +5,7 @@ use lib.ListN.{length}
 use borrow.Author.Needs.{needs}
 use Rattle.overloads.specs.List.{listPreferred, preferredOf}
 use Rattle.overloads.specs.declared.list.ChosenAnswer.the-variants.{Refused}
-use Rattle.domain.proofs.Masks.{mapped-long}
+use Rattle.scalars.proofs.Masks.{mapped-long}
 use Rattle.overloads.proofs.Verdicts.{on-refused, on-accepted, tested-valid, tested-entries}
 use Rattle.overloads.proofs.list.List.most_preferred.Statement.{statement}
 use Rattle.overloads.proofs.list.List.most_preferred.Tie as tie

@@ -4,7 +4,7 @@ use lib.ListN.{length}
 use borrow.Author.Needs.{needs}
 use Rattle.rules.specs.Listing.{acceptedListing, refusedListing}
 use Rattle.overloads.specs.List.{listListing}
-use Rattle.domain.proofs.Masks.{mapped-long}
+use Rattle.scalars.proofs.Masks.{mapped-long}
 use Rattle.overloads.proofs.Verdicts.{on-refused, on-accepted, tested-valid, tested-listing}
 use Rattle.overloads.proofs.list.List.overload_list.Statement.{statement}
 use Rattle.overloads.proofs.list.List.overload_list.Tie as tie

@@ -3,7 +3,7 @@ use mathlib.Core.Path.{_≡_, ap, _∙_}
 use lib.ListN.{length}
 use borrow.Author.Needs.{needs}
 use Rattle.overloads.specs.List.{listStep, kept, acceptedList, refusedList}
-use Rattle.domain.proofs.Masks.{mapped-long}
+use Rattle.scalars.proofs.Masks.{mapped-long}
 use Rattle.overloads.proofs.Verdicts.{on-refused, on-accepted, tested-valid, tested-list}
 use Rattle.overloads.proofs.list.List.step.Statement.{statement}
 use Rattle.overloads.proofs.list.List.step.Tie as tie

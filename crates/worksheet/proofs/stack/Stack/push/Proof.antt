@@ -4,7 +4,7 @@ use mathlib.Core.Path.{_≡_, refl}
 use native.Mathlib.Omega.{arith}
 use borrow.Author.Needs.{needs}
 use lib.ListN.{length}
-use Rattle.worksheet.specs.Machine.{mostOperands}
+use Rattle.machine.specs.Machine.{mostOperands}
 use Rattle.worksheet.proofs.Written.{one-more}
 use Rattle.worksheet.proofs.stack.Stack.push.Statement.{statement}
 use Rattle.worksheet.proofs.stack.Stack.push.Tie as tie

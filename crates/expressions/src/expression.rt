@@ -1,0 +1,125 @@
+// The first pass over an expression: are its prefix bytes an expression within the limits, and if not, what is the first fault?
+//
+// Leaf: 0, type code. Call: 1, function, number of arguments, then the arguments. A node is read through its arguments and the
+// arguments through their nodes, so `read_node` and `read_arguments` call each other. They end because the unread bytes grow
+// fewer, and since no more than 64 nodes are passed, few calls are open at once. No tree is built: a reading is the offset that it
+// got to and the number of nodes that it has passed. Bytes of any number and any value may be handed in.
+
+ghost use mathlib.Core.Path.{_≡_};
+ghost use Prim.Native.Nat.{_<_};
+ghost use lib.ListN.{length};
+ghost use Rattle.functions.specs.Functions.{functionCount};
+ghost use Rattle.expressions.specs.Tree.{mostNodes};
+ghost use Rattle.expressions.specs.Reading.{leafAt, argsAt, nodeAt, expressionOf};
+ghost use Rattle.expressions.specs.FirstPass.{levelsLeft, stepOf, stepOfAll, readOf};
+use functions::FUNCTION_COUNT;
+use scalars::Refusal;
+
+// An expression has at most so many nodes.
+pub const MOST_NODES: usize = 64;
+// The root has depth 1, the deepest node this one.
+const DEEPEST: usize = 16;
+// The type codes of leaves are 0 to this one.
+pub const LAST_LEAF: u8 = 156;
+
+// The tag of a leaf.
+pub const LEAF: u8 = 0;
+// The tag of a call.
+const CALL: u8 = 1;
+
+// What the first pass answers.
+pub enum Read {
+    // An expression within the limits, of so many nodes.
+    Accepted(usize),
+    // The first fault: 7, 8 or 9, with its byte offset.
+    Refused(Refusal),
+}
+
+// Where a reading got to.
+enum Step {
+    // The offset behind what was read, and the nodes passed since the expression's front.
+    Past(usize, usize),
+    // The first fault.
+    Fault(Refusal),
+}
+
+// Reads a whole expression: its number of nodes, or the first fault from front to back. Bytes left over behind the root are the
+// last fault that is looked for.
+pub fn read_expression(bytes: &[u8]) -> Read
+    ensures { λ r. ⌜ r ≡ readOf (expressionOf functionCount (now (bytes .entry))) ⌝ }
+{
+    let root = read_node(bytes, 0, 0, 1);
+    match root {
+        Step::Fault(fault) => Read::Refused(fault),
+        Step::Past(at, nodes) => {
+            if at < bytes.len() {
+                return Read::Refused(Refusal::IllFormed(at));
+            }
+            Read::Accepted(nodes)
+        }
+    }
+}
+
+// Reads the node at `at`, which has `nodes` nodes before it and stands at the depth `depth`.
+fn read_node(bytes: &[u8], at: usize, nodes: usize, depth: usize) -> Step
+    ensures { λ r. ⌜ r ≡ stepOf (nodeAt functionCount (now (bytes .entry)) (levelsLeft depth) at nodes) ⌝ }
+{
+    if bytes.len() <= at {
+        return Step::Fault(Refusal::IllFormed(at));
+    }
+    if MOST_NODES <= nodes {
+        return Step::Fault(Refusal::TooLarge(at));
+    }
+    if DEEPEST < depth {
+        return Step::Fault(Refusal::TooLarge(at));
+    }
+    let tag = bytes[at];
+    if tag == LEAF {
+        return read_leaf(bytes, at, nodes);
+    }
+    if tag == CALL {
+        let function = at + 1;
+        if bytes.len() <= function {
+            return Step::Fault(Refusal::IllFormed(function));
+        }
+        if FUNCTION_COUNT <= bytes[function] {
+            return Step::Fault(Refusal::Unknown(function));
+        }
+        let count = at + 2;
+        if bytes.len() <= count {
+            return Step::Fault(Refusal::IllFormed(count));
+        }
+        let left = bytes[count] as usize;
+        return read_arguments(bytes, at + 3, left, nodes + 1, depth + 1);
+    }
+    Step::Fault(Refusal::IllFormed(at))
+}
+
+// Reads `left` nodes one after the other, each at the depth `depth`.
+fn read_arguments(bytes: &[u8], at: usize, left: usize, nodes: usize, depth: usize) -> Step
+    ensures { λ r. ⌜ r ≡ stepOfAll (argsAt (nodeAt functionCount (now (bytes .entry)) (levelsLeft depth)) left at nodes) ⌝ }
+{
+    if left == 0 {
+        return Step::Past(at, nodes);
+    }
+    let one = read_node(bytes, at, nodes, depth);
+    match one {
+        Step::Fault(fault) => Step::Fault(fault),
+        Step::Past(next, passed) => read_arguments(bytes, next, left - 1, passed, depth),
+    }
+}
+
+// Reads the leaf whose tag is at `at`.
+fn read_leaf(bytes: &[u8], at: usize, nodes: usize) -> Step
+    requires { ⌜ (at < length (now bytes)) × (nodes < mostNodes) ⌝ }
+    ensures { λ r. ⌜ r ≡ stepOf (leafAt (now (bytes .entry)) at nodes) ⌝ }
+{
+    let code = at + 1;
+    if bytes.len() <= code {
+        return Step::Fault(Refusal::IllFormed(code));
+    }
+    if LAST_LEAF < bytes[code] {
+        return Step::Fault(Refusal::Unknown(code));
+    }
+    Step::Past(at + 2, nodes + 1)
+}

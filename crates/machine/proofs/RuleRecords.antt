@@ -1,0 +1,81 @@
+-- A rule that a function's listing has at an index is given back whole by its record, since it has no more arguments than the record
+-- has fields; where no rule is answered, the listing has none there.
+-- Assumes nothing.
+use mathlib.Core.Path.{_≡_, refl, sym, ap, _∙_, subst}
+use mathlib.Core.Bool.{Bool, true, false}
+use mathlib.Core.List.{List, [], _∷_}
+use mathlib.Core.Option.{Option, none, some}
+use Prim.Native.Nat.{ℕ, zero, suc, _≤_}
+use native.Mathlib.Omega.{arith}
+use lib.Dec.{ltb}
+use lib.ListN.{length, getElem?}
+use borrow.Author.Tests.{ltb-false}
+use Rattle.scalars.specs.Mask.{choose}
+use Rattle.rules.specs.Signature.{Signature}
+use Rattle.rules.specs.Rule.{mostArguments, signatureOf, ruleOf}
+use Rattle.functions.specs.Functions.{functionCount, listingOf, ruleIn, ruleAt}
+use Rattle.rules.specs.declared.rule.Rule.{Rule}
+use Rattle.scalars.specs.declared.refusal.Refusal.{Refusal}
+use Rattle.scalars.specs.declared.refusal.Refusal.the-variants.{Unknown}
+use Rattle.rules.specs.declared.rule.RuleAnswer.the-variants as answered
+use Rattle.rules.proofs.Records.{record-says}
+use Rattle.machine.specs.declared.machine.Stack.{Stack}
+use Rattle.machine.specs.declared.machine.Stepped.{Stepped}
+use Rattle.machine.specs.TopLast.{applyLast}
+use Rattle.machine.specs.MachineStack.{Did}
+use Rattle.machine.proofs.Stacks.{stop}
+use Rattle.functions.proofs.Database.{four-arguments, unknown-none}
+
+clash : {A : Type 0} {q : Rule} {why : Refusal} → answered.Refused why ≡ answered.Rule q → A
+clash e = absurd (let z : _≡_ {A = ℕ} 0 1 = cc in omega arith)
+
+-- the rule of this record stands there
+pub record Stands (o : Option Signature) (q : Rule) : Type 0 where
+  pub rule-is : o ≡ some (signatureOf q)
+  pub few : q .count ≤ mostArguments
+
+stands-first : (r : Signature) (q : Rule) → length (r .arguments) ≤ mostArguments → ruleOf r ≡ q → Stands (some r) q
+unfolding ruleOf
+stands-first r q h e = record {
+  rule-is = ap some (sym (record-says r h) ∙ ap signatureOf e);
+  few = subst (λ (p : Rule). p .count ≤ mostArguments) e h;
+}
+
+stands-in : (rs : List Signature) (i : ℕ) (q : Rule) → ((r : Signature) → getElem? rs i ≡ some r → length (r .arguments) ≤ mostArguments)
+    → ruleIn rs i ≡ answered.Rule q → Stands (getElem? rs i) q
+stands-in [] i q s e = clash e
+stands-in (r ∷ rs) zero q s e = stands-first r q (s r refl) (cc)
+stands-in (r ∷ rs) (suc i) q s e = stands-in rs i q s e
+
+none-in : (rs : List Signature) (i : ℕ) (why : Refusal) → ruleIn rs i ≡ answered.Refused why → getElem? rs i ≡ none
+none-in [] i why e = refl
+none-in (r ∷ rs) zero why e = clash (sym e)
+none-in (r ∷ rs) (suc i) why e = none-in rs i why e
+
+module _ (f i : ℕ) where
+  pub stands : (q : Rule) → answered.Rule q ≡ ruleAt f i → Stands (getElem? (listingOf f) i) q
+  unfolding ruleAt
+  stands q e = go (ltb f functionCount) e
+    where
+      go : (b : Bool) → answered.Rule q ≡ choose b (ruleIn (listingOf f) i) (answered.Refused (Unknown 0))
+          → Stands (getElem? (listingOf f) i) q
+      go true p = stands-in (listingOf f) i q (four-arguments f i) (sym p)
+      go false p = clash (sym p)
+
+  pub none-there : (why : Refusal) → answered.Refused why ≡ ruleAt f i → getElem? (listingOf f) i ≡ none
+  unfolding ruleAt
+  none-there why e = go (ltb f functionCount) refl e
+    where
+      go : (b : Bool) → ltb f functionCount ≡ b → answered.Refused why ≡ choose b (ruleIn (listingOf f) i) (answered.Refused (Unknown 0))
+          → getElem? (listingOf f) i ≡ none
+      go true h p = none-in (listingOf f) i why (sym p)
+      go false h p = ap (λ (rs : List Signature). getElem? rs i) (unknown-none f (ltb-false f functionCount h))
+
+-- a call by the rule that stands there, and a call where none does
+pub called : (n : ℕ) (s : List ℕ) (o : Option Signature) (q : Rule) (r : Stepped) → Stands o q
+    → Did (applyLast n s (some (signatureOf q))) r → Did (applyLast n s o) r
+called n s o q r h d = rw (h .rule-is) d
+
+pub uncalled : (n : ℕ) (s : List ℕ) (o : Option Signature) (k : Stack) → o ≡ none → Did (applyLast n s o) (stop k)
+unfolding applyLast
+uncalled n s o k e = rw e

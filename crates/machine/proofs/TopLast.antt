@@ -1,0 +1,156 @@
+-- The machine whose stack has its top last ends as the strict machine does, with the stack turned over, and stops at the same line.
+-- Assumes nothing.
+use mathlib.Core.Path.{_≡_, refl, sym, ap, _∙_}
+use mathlib.Core.Bool.{Bool, true, false}
+use mathlib.Core.List.{List, [], _∷_, _++_, reverse, reverse-cons, reverse-append, reverse-reverse}
+use mathlib.Core.Option.{Option, none, some}
+use Prim.Native.Nat.{ℕ, suc, _-_, _≤_, _<_}
+use lib.Dec.{leb, ltb, eqb}
+use lib.ListN.{length, getD, set, take, drop, getElem?, length-reverse, length-drop, take-append-drop}
+use lib.Seq.{split-at, set-split, append-snoc, take-at, drop-at, getD-at, set-at}
+use borrow.Author.Tests.{ltb-true, leb-true}
+use Rattle.scalars.specs.Mask.{both}
+use Rattle.rules.specs.Signature.{Signature}
+use Rattle.expressions.specs.Tree.{lastLeaf}
+use Rattle.machine.specs.Line.{Line, leafLine, conversionLine, callLine, onlyIf, lineOf}
+use Rattle.machine.specs.Machine.{Outcome, ended, stopped, mostOperands, push, convertible, convertAt, same, apply, next, stepIf, runBytesBy, step, runBytes}
+use Rattle.machine.specs.TopLast.{pushLast, convertLast, applyLast, stepLast}
+use Rattle.machine.proofs.Likeness.{same-same, same-is}
+
+-- an outcome with its stack turned over
+abbrev pub turned : Outcome → Outcome
+turned (ended s) = ended (reverse s)
+turned (stopped n) = stopped n
+
+-- a stack turned over
+turnedStack : Option (List ℕ) → Option (List ℕ)
+turnedStack none = none
+turnedStack (some s) = some (reverse s)
+
+turned-if : (b : Bool) (o o′ : Option (List ℕ)) → (b ≡ true → o′ ≡ turnedStack o) → onlyIf b o′ ≡ turnedStack (onlyIf b o)
+unfolding turnedStack
+turned-if true o o′ h = h refl
+turned-if false o o′ h = refl
+
+turn-around : (p q : List ℕ) (x : ℕ) → reverse (p ++ (x ∷ q)) ≡ reverse q ++ (x ∷ reverse p)
+turn-around p q x = reverse-append p (x ∷ q) ∙ rw reverse-cons (append-snoc (reverse q) x (reverse p))
+
+push-turned : (t : ℕ) (s : List ℕ) → pushLast t (reverse s) ≡ turnedStack (push t s)
+unfolding turnedStack
+push-turned t s =
+    rw length-reverse
+    (turned-if (ltb (length s) mostOperands) (some (t ∷ s)) (some (reverse s ++ (t ∷ []))) (λ e. ap some (sym (reverse-cons t s))))
+
+module _ (d : ℕ) (s : List ℕ) (h : d < length s) where
+  before-last : length (reverse (drop (suc d) s)) ≡ length s - suc d
+  before-last = simp (length-reverse, length-drop)
+
+  turned-at : reverse s ≡ reverse (drop (suc d) s) ++ (getD s d 0 ∷ reverse (take d s))
+  turned-at = ap reverse (split-at s d 0 h) ∙ turn-around (take d s) (drop (suc d) s) (getD s d 0)
+
+  get-turned : getD (reverse s) (length s - suc d) 0 ≡ getD s d 0
+  get-turned = rw turned-at (getD-at (reverse (drop (suc d) s)) (getD s d 0) (reverse (take d s)) 0 (length s - suc d) before-last)
+
+  set-turned : (a : ℕ) → set (reverse s) (length s - suc d) a ≡ reverse (set s d a)
+  set-turned a =
+      ap (λ (l : List ℕ). set l (length s - suc d) a) turned-at
+      ∙ set-at (reverse (drop (suc d) s)) (getD s d 0) (reverse (take d s)) a (length s - suc d) before-last
+      ∙ sym (ap reverse (set-split s d a h) ∙ turn-around (take d s) (drop (suc d) s) a)
+
+convert-turned : (d a : ℕ) (s : List ℕ) → convertLast d a (reverse s) ≡ turnedStack (convertAt d a s)
+unfolding convertLast convertAt turnedStack
+convert-turned d a s = rw length-reverse (go (ltb d (length s)) refl)
+  where
+    go : (b : Bool) → ltb d (length s) ≡ b
+        → onlyIf (both b (convertible (getD (reverse s) (length s - suc d) 0) a)) (some (set (reverse s) (length s - suc d) a))
+        ≡ turnedStack (onlyIf (both b (convertible (getD s d 0) a)) (some (set s d a)))
+    go true e =
+        let h : d < length s = ltb-true d (length s) e in
+        rw (get-turned d s h, set-turned d s h a)
+        (turned-if (convertible (getD s d 0) a) (some (set s d a)) (some (reverse (set s d a))) (λ q. refl))
+    go false e = refl
+
+same-turned : (xs ys : List ℕ) → same (reverse xs) ys ≡ same xs (reverse ys)
+same-turned xs ys = go (same (reverse xs) ys) (same xs (reverse ys)) refl refl
+  where
+    go : (b c : Bool) → same (reverse xs) ys ≡ b → same xs (reverse ys) ≡ c → b ≡ c
+    go true true e e′ = refl
+    go false false e e′ = refl
+    go true false e e′ =
+        let q : xs ≡ reverse ys = sym (reverse-reverse xs) ∙ ap reverse (same-is (reverse xs) ys e) in
+        sym (same-same (reverse ys)) ∙ ap (λ (l : List ℕ). same l (reverse ys)) (sym q) ∙ e′
+    go false true e e′ =
+        let q : reverse xs ≡ ys = ap reverse (same-is xs (reverse ys) e′) ∙ reverse-reverse ys in
+        sym e ∙ ap (λ (l : List ℕ). same l ys) q ∙ same-same ys
+
+-- the top operands, turned over, are the last ones
+module _ (n : ℕ) (s : List ℕ) (h : n ≤ length s) where
+  rest-long : length (reverse (drop n s)) ≡ length s - n
+  rest-long = simp (length-reverse, length-drop)
+
+  turned-parts : reverse s ≡ reverse (drop n s) ++ reverse (take n s)
+  turned-parts = ap reverse (sym (take-append-drop n s)) ∙ reverse-append (take n s) (drop n s)
+
+  last-ones : drop (length s - n) (reverse s) ≡ reverse (take n s)
+  last-ones = rw turned-parts (drop-at (reverse (drop n s)) (reverse (take n s)) (length s - n) rest-long)
+
+  first-ones : take (length s - n) (reverse s) ≡ reverse (drop n s)
+  first-ones = rw turned-parts (take-at (reverse (drop n s)) (reverse (take n s)) (length s - n) rest-long)
+
+apply-turned : (n : ℕ) (s : List ℕ) (o : Option Signature) → applyLast n (reverse s) o ≡ turnedStack (apply n s o)
+unfolding applyLast apply turnedStack
+apply-turned n s none = refl
+apply-turned n s (some r) =
+    turned-if (eqb (length (r .arguments)) n)
+    (onlyIf (both (leb n (length s)) (same (take n s) (reverse (r .arguments)))) (push (r .result) (drop n s)))
+    (onlyIf (both (leb n (length (reverse s))) (same (drop (length (reverse s) - n) (reverse s)) (r .arguments)))
+    (pushLast (r .result) (take (length (reverse s) - n) (reverse s))))
+    (λ q. rw length-reverse (go (leb n (length s)) refl))
+  where
+    go : (b : Bool) → leb n (length s) ≡ b
+        → onlyIf (both b (same (drop (length s - n) (reverse s)) (r .arguments))) (pushLast (r .result) (take (length s - n) (reverse s)))
+        ≡ turnedStack (onlyIf (both b (same (take n s) (reverse (r .arguments)))) (push (r .result) (drop n s)))
+    go true e =
+        let h : n ≤ length s = leb-true n (length s) e in
+        rw (last-ones n s h, first-ones n s h, same-turned (take n s) (r .arguments))
+        (turned-if (same (take n s) (reverse (r .arguments))) (push (r .result) (drop n s)) (pushLast (r .result) (reverse (drop n s)))
+        (λ q. push-turned (r .result) (drop n s)))
+    go false e = refl
+
+module _ (listingOf : ℕ → List Signature) where
+  step-turned : (l : Line) (s : List ℕ) → stepLast listingOf l (reverse s) ≡ turnedStack (step listingOf l s)
+  step-turned (leafLine l) s =
+      turned-if (leb (l .type) lastLeaf) (push (l .type) s) (pushLast (l .type) (reverse s)) (λ q. push-turned (l .type) s)
+  step-turned (conversionLine d a) s = convert-turned d a s
+  step-turned (callLine f i n) s = apply-turned n s (getElem? (listingOf f) i)
+
+  step-if-turned : (o : Option Line) (s : List ℕ)
+      → stepIf (stepLast listingOf) o (reverse s) ≡ turnedStack (stepIf (step listingOf) o s)
+  unfolding turnedStack
+  step-if-turned none s = refl
+  step-if-turned (some l) s = step-turned l s
+
+  next-turned : (n : ℕ) (go go′ : List ℕ → Outcome) → ((s : List ℕ) → go′ (reverse s) ≡ turned (go s))
+      → (o : Option (List ℕ)) → next n go′ (turnedStack o) ≡ turned (next n go o)
+  unfolding turnedStack
+  next-turned n go go′ h none = refl
+  next-turned n go go′ h (some s) = h s
+
+  run-turned : (bs : List ℕ) (n : ℕ) (s : List ℕ)
+      → runBytesBy (stepLast listingOf) bs n (reverse s) ≡ turned (runBytesBy (step listingOf) bs n s)
+  run-turned [] n s = refl
+  run-turned (a ∷ []) n s = refl
+  run-turned (a ∷ b ∷ []) n s = refl
+  run-turned (a ∷ b ∷ c ∷ []) n s = refl
+  run-turned (a ∷ b ∷ c ∷ d ∷ rest) n s =
+      rw (step-if-turned (lineOf a b c d) s)
+      (next-turned n (λ (s′ : List ℕ). runBytesBy (step listingOf) rest (suc n) s′)
+      (λ (s′ : List ℕ). runBytesBy (stepLast listingOf) rest (suc n) s′)
+      (λ s′. run-turned rest (suc n) s′) (stepIf (step listingOf) (lineOf a b c d) s))
+
+  -- from the empty stack
+  abbrev pub runBytesLast : List ℕ → Outcome
+  runBytesLast bs = runBytesBy (stepLast listingOf) bs 0 []
+
+  pub top-last : (bs : List ℕ) → runBytesLast bs ≡ turned (runBytes listingOf bs)
+  top-last bs = run-turned bs 0 []

@@ -1,0 +1,41 @@
+-- `apply` does what the machine does whose stack has its top last: each way through the function is a law of proofs/Stacks.antt.
+-- Assumes nothing.
+use mathlib.Core.Path.{sym, _∙_}
+use borrow.Author.Tests.{not-true, not-false}
+use Rattle.machine.proofs.Stacks.{apply-miscounted, apply-short, apply-unlike, applied}
+use borrow.Author.Needs.{needs}
+use Rattle.machine.proofs.machine.apply.Statement.{statement}
+use Rattle.machine.proofs.machine.apply.Tie as tie
+
+returns : tie.Need-returns
+returns c =
+    let start = c .before .before in
+    apply-miscounted _ (start .pre .0) _ (start .pre .1) _ (c .if1 .taken)
+
+returns-2 : tie.Need-returns-2
+returns-2 c =
+    let start = c .before .before .before .before in
+    apply-short _ (start .pre .0) _ (start .pre .1) _ (c .before .before .if1 .left) (c .if2 .taken)
+
+matches-requires : tie.Need-matches-requires
+matches-requires c κs = search needs
+
+returns-3 : tie.Need-returns-3
+returns-3 c =
+    let start = c .before .before .before .before .before .before in
+    apply-unlike _ (start .pre .0) _ (start .pre .1) _ (c .before .before .before .before .if1 .left) (c .before .before .if2 .left)
+    (sym (c .before .matches .ensures) ∙ not-true _ (c .if3 .taken))
+
+push-requires : tie.Need-push-requires
+push-requires c κs = search needs
+
+returns-4 : tie.Need-returns-4
+returns-4 c =
+    let start = c .before .before .before .before .before .before .before .before .before in
+    let matched = c .before .before .before .before in
+    applied _ (start .pre .0) _ (start .pre .1) _ (matched .before .before .before .if1 .left) (matched .before .if2 .left) (c .push .result)
+    (sym (matched .matches .ensures) ∙ not-false _ (c .before .before .before .if3 .left)) (c .push .ensures)
+
+pub apply-spec : {M : Type 1} → statement M
+apply-spec =
+    tie.close (tie.spec returns returns-2 matches-requires returns-3 push-requires returns-4)

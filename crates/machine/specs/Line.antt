@@ -1,0 +1,68 @@
+-- 'A worksheet is lines of four bytes': a line, the lines of a call, a line's bytes, and the line that four bytes spell.
+use mathlib.Core.Bool.{Bool, true, false}
+use mathlib.Core.List.{List, [], _∷_, _++_}
+use mathlib.Core.Option.{Option, none, some}
+use Prim.Native.Nat.{ℕ}
+use lib.Dec.{eqb}
+use lib.ListN.{length}
+use Rattle.scalars.specs.Mask.{choose, both}
+use Rattle.rules.specs.Signature.{Signature}
+use Rattle.expressions.specs.Tree.{Leaf}
+
+-- a leaf; a conversion: depth from the top of the stack, type; a call: function, index in the full listing, number of arguments
+pub data Line : Type 0 where
+  leafLine : Leaf → Line
+  conversionLine : ℕ → ℕ → Line
+  callLine : ℕ → ℕ → ℕ → Line
+
+-- a line in front of the others, unless the types are the same
+abbrev pub unlessSame : Bool → Line → List Line → List Line
+unlessSame true l ls = ls
+unlessSame false l ls = l ∷ ls
+
+-- the conversions of operands to a rule's arguments, by ascending argument, only where types differ; above an operand on the stack
+-- stand the operands after it
+abbrev pub conversions : List ℕ → List ℕ → List Line
+conversions [] az = []
+conversions (t ∷ ts) [] = []
+conversions (t ∷ ts) (a ∷ az) = unlessSame (eqb t a) (conversionLine (length ts) a) (conversions ts az)
+
+-- a call by the rule at an index, behind the lines of its operands
+abbrev pub callLines : ℕ → ℕ → List ℕ → Signature → List Line
+callLines f i ts r = conversions ts (r .arguments) ++ (callLine f i (length ts) ∷ [])
+
+-- bytes, the first of which marks the kind of line. Leaf: 0, type, 0, 0. Call: 1, function, index, number of arguments. Conversion:
+-- 2, depth, type, 0. An expression's tags are numbered apart (specs/Tree.antt)
+abbrev pub leafMark : ℕ
+leafMark = 0
+
+abbrev pub callMark : ℕ
+callMark = 1
+
+abbrev pub conversionMark : ℕ
+conversionMark = 2
+
+abbrev pub fourBytes : Line → List ℕ
+fourBytes (leafLine l) = leafMark ∷ l .type ∷ 0 ∷ 0 ∷ []
+fourBytes (callLine f i n) = callMark ∷ f ∷ i ∷ n ∷ []
+fourBytes (conversionLine d a) = conversionMark ∷ d ∷ a ∷ 0 ∷ []
+
+unfoldable pub encode : List Line → List ℕ
+encode [] = []
+encode (l ∷ ls) = fourBytes l ++ encode ls
+
+-- and back: an unknown tag, or a spare byte that isn't 0, spells no line
+abbrev pub onlyIf {ℓ} : {A : Type ℓ} → Bool → Option A → Option A
+onlyIf true x = x
+onlyIf false x = none
+
+abbrev pub leafOf : ℕ → ℕ → ℕ → Option Line
+leafOf t y z = onlyIf (both (eqb y 0) (eqb z 0)) (some (leafLine (record { type = t })))
+
+abbrev pub conversionOf : ℕ → ℕ → ℕ → Option Line
+conversionOf d a z = onlyIf (eqb z 0) (some (conversionLine d a))
+
+abbrev pub lineOf : ℕ → ℕ → ℕ → ℕ → Option Line
+lineOf tag x y z =
+    choose (eqb tag leafMark) (leafOf x y z)
+    (choose (eqb tag callMark) (some (callLine x y z)) (onlyIf (eqb tag conversionMark) (conversionOf x y z)))

@@ -1,0 +1,57 @@
+-- `four` meets its contract: each byte is below 256, so the sum of the four is below 2^32 and never wraps.
+-- Assumes nothing.
+use native.Mathlib.Omega.{arith}
+use Rattle.packing.specs.Packing.{fourBytes}
+use borrow.Author.Needs.{needs}
+use Rattle.packing.proofs.packing.four.Statement.{statement}
+use Rattle.packing.proofs.packing.four.Tie as tie
+
+wide-requires : tie.Need-wide-requires
+wide-requires c κs = search needs
+
+wide-requires-2 : tie.Need-wide-requires-2
+wide-requires-2 c κs = search needs
+
+mul-result : tie.Need-mul-result
+mul-result c = search needs
+
+add-result : tie.Need-add-result
+add-result c = search needs
+
+wide-requires-3 : tie.Need-wide-requires-3
+wide-requires-3 c κs = search needs
+
+mul-result-2 : tie.Need-mul-result-2
+mul-result-2 c = search needs
+
+add-result-2 : tie.Need-add-result-2
+add-result-2 c = search needs
+
+wide-requires-4 : tie.Need-wide-requires-4
+wide-requires-4 c κs = search needs
+
+mul-result-3 : tie.Need-mul-result-3
+mul-result-3 c = search needs
+
+add-result-3 : tie.Need-add-result-3
+add-result-3 c = search needs
+
+returns : tie.Need-returns
+unfolding fourBytes
+returns c = (omega arith, omega arith)
+
+pub four-spec : {M : Type 1} → statement M
+four-spec =
+    tie.close
+    (tie.spec
+    wide-requires
+    wide-requires-2
+    mul-result
+    add-result
+    wide-requires-3
+    mul-result-2
+    add-result-2
+    wide-requires-4
+    mul-result-3
+    add-result-3
+    returns)

@@ -1,0 +1,33 @@
+-- `Regular::concrete_only` meets its contract.
+-- Assumes nothing.
+use mathlib.Core.Path.{sym, ap, _∙_}
+use Rattle.regular.specs.Regular.{regularConcrete}
+use Rattle.regular.specs.declared.regular.RegularAnswer.the-variants.{Set}
+use borrow.Author.Needs.{needs}
+use Rattle.regular.proofs.regular.Regular.concrete_only.Statement.{statement}
+use Rattle.regular.proofs.regular.Regular.concrete_only.Tie as tie
+
+verdict-requires : tie.Need-verdict-requires
+verdict-requires c κs = search needs
+
+enum-known-why : tie.Need-enum-known-why
+enum-known-why c = search needs
+
+returns : tie.Need-returns
+unfolding regularConcrete
+returns c = rw (sym (c .before .before .before .verdict .ensures) ∙ c .before .why .given .1)
+
+enum-told : tie.Need-enum-told
+enum-told c = search needs
+
+concrete-requires : tie.Need-concrete-requires
+concrete-requires c κs = search needs
+
+returns-2 : tie.Need-returns-2
+unfolding regularConcrete
+returns-2 c = rw (sym (c .before .before .before .verdict .ensures) ∙ c .before .enum-told .given .1) (ap Set (c .concrete .ensures))
+
+pub concrete-only-spec : {M : Type 1} → statement M
+concrete-only-spec =
+    tie.close
+    (tie.spec verdict-requires enum-known-why returns enum-told concrete-requires returns-2)

@@ -1,0 +1,32 @@
+-- `Regular::narrow` meets its contract: each mask is met with what the type allows.
+-- Assumes nothing.
+use mathlib.Core.Path.{ap, ap₂, _∙_}
+use Prim.Native.Nat.{ℕ}
+use lib.Bits.{bitAnd}
+use Rattle.regular.specs.Regular.{narrowed}
+use borrow.Author.Needs.{needs}
+use Rattle.regular.proofs.regular.Regular.narrow.Statement.{statement}
+use Rattle.regular.proofs.regular.Regular.narrow.Tie as tie
+
+singleton-requires : tie.Need-singleton-requires
+singleton-requires c κs = search needs
+
+meet-requires : tie.Need-meet-requires
+meet-requires c κs = search needs
+
+reached-scalars-requires : tie.Need-reached-scalars-requires
+reached-scalars-requires c κs = search needs
+
+meet-requires-2 : tie.Need-meet-requires-2
+meet-requires-2 c κs = search needs
+
+returns : tie.Need-returns
+unfolding narrowed
+returns c = ap₂ (λ (a b : ℕ). record { arity = c .before .before .before .before .args .self .arity; constructors = record { 0 = a }; scalars = record { 0 = b }; conclude = c .before .before .before .before .args .self .conclude })
+    (c .before .before .meet .ensures ∙ ap (bitAnd (c .before .before .before .before .args .self .constructors .0)) (c .before .before .before .singleton .ensures))
+    (c .meet2 .ensures ∙ ap (bitAnd (c .before .before .before .before .args .self .scalars .0)) (c .before .reached-scalars .ensures))
+
+pub narrow-spec : {M : Type 1} → statement M
+narrow-spec =
+    tie.close
+    (tie.spec singleton-requires meet-requires reached-scalars-requires meet-requires-2 returns)

@@ -1,0 +1,373 @@
+// An overload set whose rules all have one shape: any of its constructors over any of its scalars, the same type for each argument.
+//
+// Two masks stand for up to 156 rules, listed by constructor and within one by scalar. Whoever hands in a set may have put anything
+// there, so each public operation tests it first.
+
+ghost use mathlib.Core.Path.{_≡_};
+ghost use mathlib.Core.List.{map};
+ghost use Prim.Native.Nat.{_+_, _*_, _<_, _≤_};
+ghost use Rattle.scalars.specs.Mask.{bits};
+ghost use Rattle.regular.specs.Regular.{Known, regularVerdict, regularEmpty, regularCount, regularArg, regularConcrete, regularPreferred, regularRule, regularListing, regularAllowed, emptySet?, narrowed, concreteSet, reachedScalars, concludedOf, ruleFor, codesOf, codesFound, listedRules, RowFits, put};
+use domain::CodeAnswer;
+use domain::Constructor;
+use domain::ConstructorSet;
+use domain::LAST_CODE;
+use domain::TypeParts;
+use domain::VALUES;
+use domain::code_of;
+use rules::AllowedArgs;
+use rules::Listing;
+use rules::MOST_ARGUMENTS;
+use rules::Rule;
+use rules::RuleAnswer;
+use rules::no_codes;
+use rules::no_listing;
+use rules::no_rules;
+use rules::no_types;
+use scalars::CountAnswer;
+use scalars::Refusal;
+use scalars::Scalar;
+use scalars::ScalarSet;
+use scalars::Test;
+use scalars::Verdict;
+
+pub struct Regular {
+    // The number of arguments in the rules.
+    pub arity: u8,
+    // The constructors to apply.
+    pub constructors: ConstructorSet,
+    // The scalars to apply them to.
+    pub scalars: ScalarSet,
+    // How a rule's result follows from its argument type.
+    pub conclude: ConclusionRule,
+}
+
+// How a rule's result follows from its argument type.
+pub enum ConclusionRule {
+    ArgumentType,
+    Scalar,
+    Frexp,
+    Modf,
+    U32,
+    I32,
+    Vec2F,
+    Vec4F,
+    Vec4I,
+    Vec4U,
+}
+
+// The answer where a Regular set is asked for.
+pub enum RegularAnswer {
+    Set(Regular),
+    Refused(Refusal),
+}
+
+impl Regular {
+    // The set of no rules.
+    pub const EMPTY: Regular = Regular {
+        arity: 0,
+        constructors: ConstructorSet::EMPTY,
+        scalars: ScalarSet::EMPTY,
+        conclude: ConclusionRule::ArgumentType,
+    };
+
+    // Whether the set is one: refused 7 for an unknown bit, then 3 for more than four arguments.
+    pub fn verdict(self) -> Verdict
+        ensures { λ r. ⌜ r ≡ regularVerdict self ⌝ }
+    {
+        if ConstructorSet::ALL < self.constructors.0 {
+            return Verdict::Refused(Refusal::Unknown(0));
+        }
+        if ScalarSet::ALL < self.scalars.0 {
+            return Verdict::Refused(Refusal::Unknown(0));
+        }
+        if MOST_ARGUMENTS < self.arity {
+            return Verdict::Refused(Refusal::TooMany);
+        }
+        Verdict::Accepted
+    }
+
+    // Whether the set has no rule. Refused as the set is.
+    pub fn is_empty(self) -> Test
+        ensures { λ r. ⌜ r ≡ regularEmpty self ⌝ }
+    {
+        if let Verdict::Refused(why) = self.verdict() {
+            return Test::Refused(why);
+        }
+        if self.holds_none() {
+            return Test::Yes;
+        }
+        Test::No
+    }
+
+    // Whether a tested set has no rule.
+    pub fn holds_none(self) -> bool
+        ensures { λ r. ⌜ r ≡ emptySet? self ⌝ }
+    {
+        if self.constructors.0 == 0 {
+            return true;
+        }
+        self.scalars.0 == 0
+    }
+
+    // The least number of arguments. Refused as the set is, then 1 where it has no rule.
+    pub fn min_arguments(self) -> CountAnswer
+        ensures { λ r. ⌜ r ≡ regularCount self ⌝ }
+    {
+        self.max_arguments()
+    }
+
+    // The most arguments. Refused as the set is, then 1 where it has no rule.
+    pub fn max_arguments(self) -> CountAnswer
+        ensures { λ r. ⌜ r ≡ regularCount self ⌝ }
+    {
+        if let Verdict::Refused(why) = self.verdict() {
+            return CountAnswer::Refused(why);
+        }
+        if self.holds_none() {
+            return CountAnswer::Refused(Refusal::EmptySet(0));
+        }
+        CountAnswer::Count(self.arity)
+    }
+
+    // The rules that take the type at an argument: its own constructor, and the scalars that its scalar converts to. At or above the
+    // arity, EMPTY itself. Refused 7 for a type code above 180, then as the set is.
+    pub fn arg(self, i: usize, t: u8) -> RegularAnswer
+        ensures { λ r. ⌜ r ≡ regularArg i t self ⌝ }
+    {
+        if LAST_CODE < t {
+            return RegularAnswer::Refused(Refusal::Unknown(0));
+        }
+        if let Verdict::Refused(why) = self.verdict() {
+            return RegularAnswer::Refused(why);
+        }
+        if (self.arity as usize) <= i {
+            return RegularAnswer::Set(Regular::EMPTY);
+        }
+        RegularAnswer::Set(self.narrow(t))
+    }
+
+    // Both masks anded with what a type allows; arity and conclusion are kept, also where nothing is left.
+    pub fn narrow(self, t: u8) -> Regular
+        ensures { λ r. ⌜ r ≡ narrowed t self ⌝ }
+    {
+        let constructors = self.constructors.meet(ConstructorSet::singleton(t));
+        let scalars = self.scalars.meet(reached_scalars(t));
+        let conclude = self.conclude;
+        Regular {
+            arity: self.arity,
+            constructors: constructors,
+            scalars: scalars,
+            conclude: conclude,
+        }
+    }
+
+    // The rules without an abstract argument. Refused as the set is.
+    pub fn concrete_only(self) -> RegularAnswer
+        ensures { λ r. ⌜ r ≡ regularConcrete self ⌝ }
+    {
+        if let Verdict::Refused(why) = self.verdict() {
+            return RegularAnswer::Refused(why);
+        }
+        RegularAnswer::Set(self.concrete())
+    }
+
+    // The concrete scalars alone.
+    pub fn concrete(self) -> Regular
+        ensures { λ r. ⌜ r ≡ concreteSet self ⌝ }
+    {
+        let constructors = self.constructors;
+        let scalars = self.scalars.meet(ScalarSet::CONCRETE);
+        let conclude = self.conclude;
+        Regular {
+            arity: self.arity,
+            constructors: constructors,
+            scalars: scalars,
+            conclude: conclude,
+        }
+    }
+
+    // The first rule, where one constructor is left. Refused as the set is, 1 where it has no rule, 2 with several constructors, then
+    // 13 where the rule has no conclusion.
+    pub fn most_preferred(self) -> RuleAnswer
+        ensures { λ r. ⌜ r ≡ regularPreferred self ⌝ }
+    {
+        if let Verdict::Refused(why) = self.verdict() {
+            return RuleAnswer::Refused(why);
+        }
+        if self.holds_none() {
+            return RuleAnswer::Refused(Refusal::EmptySet(0));
+        }
+        if !self.constructors.is_singleton() {
+            return RuleAnswer::Refused(Refusal::SeveralConstructors);
+        }
+        let k = u16::trailing_zeros(self.constructors.0) as u8;
+        let s = u16::trailing_zeros(self.scalars.0) as u8;
+        self.rule(k * 12 + s)
+    }
+
+    // The rule whose arguments have the type. Refused 7 for a code that is no value type, then as the set is, then 13 where the rule has
+    // no conclusion.
+    pub fn rule_of(self, t: u8) -> RuleAnswer
+        ensures { λ r. ⌜ r ≡ regularRule t self ⌝ }
+    {
+        if VALUES <= t {
+            return RuleAnswer::Refused(Refusal::Unknown(0));
+        }
+        if let Verdict::Refused(why) = self.verdict() {
+            return RuleAnswer::Refused(why);
+        }
+        self.rule(t)
+    }
+
+    // The same in a tested set, of a value type.
+    fn rule(self, t: u8) -> RuleAnswer
+        requires { ⌜ (self .arity ≤ 4) × (t < 156) ⌝ }
+        ensures { λ r. ⌜ r ≡ ruleFor self t ⌝ }
+    {
+        let n = self.arity;
+        let conclusion = self.conclude;
+        match conclusion.conclude(t) {
+            CodeAnswer::Refused(why) => RuleAnswer::Refused(why),
+            CodeAnswer::Code(result) => RuleAnswer::Rule(Rule::uniform(n, t, result)),
+        }
+    }
+
+    // All rules in order. Refused as the set is, then 13 where some rule has no conclusion.
+    pub fn overload_list(self) -> Listing
+        ensures { λ r. ⌜ r ≡ regularListing self ⌝ }
+    {
+        if let Verdict::Refused(why) = self.verdict() {
+            return no_listing(why);
+        }
+        self.listed()
+    }
+
+    // The types that an argument may have, in order; none at or above the arity. Refused as the set is.
+    pub fn allowed_args(self, i: usize) -> AllowedArgs
+        ensures { λ r. ⌜ r ≡ regularAllowed i self ⌝ }
+    {
+        if let Verdict::Refused(why) = self.verdict() {
+            return no_types(why);
+        }
+        if (self.arity as usize) <= i {
+            return AllowedArgs {
+                answer: CountAnswer::Count(0),
+                codes: no_codes(),
+            };
+        }
+        let found = self.codes();
+        let codes = found.codes;
+        AllowedArgs {
+            answer: CountAnswer::Count(found.count as u8),
+            codes: codes,
+        }
+    }
+
+    // The rules of a tested set, in order; refused 13 where one has no conclusion.
+    fn listed(self) -> Listing
+        requires { ⌜ Known self ⌝ }
+        ensures { λ r. ⌜ r ≡ listedRules self ⌝ }
+    {
+        let found = self.codes();
+        let codes = found.codes;
+        let count = found.count;
+        let mut rules = no_rules();
+        let mut k: usize = 0;
+        while k < count {
+            match self.rule(codes[k]) {
+                RuleAnswer::Refused(why) => {
+                    return no_listing(why);
+                }
+                RuleAnswer::Rule(rule) => {
+                    rules[k] = rule;
+                }
+            }
+            k += 1;
+        }
+        Listing {
+            answer: CountAnswer::Count(count as u8),
+            rules: rules,
+        }
+    }
+
+    // The argument types of the rules: each constructor in turn, over each scalar in turn.
+    fn codes(self) -> Codes
+        requires { ⌜ Known self ⌝ }
+        ensures { λ r. ⌜ r ≡ codesFound (codesOf self) ⌝ }
+    {
+        let scalars = self.scalars.0;
+        let mut rest = self.constructors.0;
+        let mut found = Codes {
+            codes: no_codes(),
+            count: 0,
+        };
+        while rest != 0 {
+            let k = u16::trailing_zeros(rest);
+            found = found.row(k as u8, scalars);
+            rest -= 1u16 << k;
+        }
+        found
+    }
+}
+
+// Argument types, and how many of them there are.
+struct Codes {
+    codes: [u8; 156],
+    count: usize,
+}
+
+impl Codes {
+    // The types of one constructor over each scalar in turn, behind those found so far.
+    fn row(self, constructor: u8, scalars: u16) -> Codes
+        requires { ⌜ RowFits self constructor scalars ⌝ }
+        ensures { λ r. ⌜ r ≡ put self (map (λ s. constructor * 12 + s) (bits 12 scalars)) ⌝ }
+    {
+        let mut codes = self.codes;
+        let mut count = self.count;
+        let mut rest = scalars;
+        while rest != 0 {
+            let s = u16::trailing_zeros(rest);
+            codes[count] = constructor * 12 + (s as u8);
+            count += 1;
+            rest -= 1u16 << s;
+        }
+        Codes {
+            codes: codes,
+            count: count,
+        }
+    }
+}
+
+// The scalars that a type's scalar converts to; none for a type without one.
+fn reached_scalars(t: u8) -> ScalarSet
+    ensures { λ r. ⌜ r .0 ≡ reachedScalars t ⌝ }
+{
+    if VALUES <= t {
+        return ScalarSet::EMPTY;
+    }
+    ScalarSet::convertible_from(Scalar(t % 12))
+}
+
+impl ConclusionRule {
+    // The result type of a rule whose arguments have the type. Refused 13 where Frexp and Modf have no result.
+    fn conclude(self, t: u8) -> CodeAnswer
+        requires { ⌜ t < 156 ⌝ }
+        ensures { λ r. ⌜ r ≡ concludedOf self t ⌝ }
+    {
+        let constructor = Constructor(t / 12);
+        let scalar = Scalar(t % 12);
+        match self {
+            ConclusionRule::ArgumentType => CodeAnswer::Code(t),
+            ConclusionRule::Scalar => CodeAnswer::Code(t % 12),
+            ConclusionRule::Frexp => code_of(TypeParts::Frexp(constructor, scalar)),
+            ConclusionRule::Modf => code_of(TypeParts::Modf(constructor, scalar)),
+            ConclusionRule::U32 => CodeAnswer::Code(5),
+            ConclusionRule::I32 => CodeAnswer::Code(2),
+            ConclusionRule::Vec2F => CodeAnswer::Code(20),
+            ConclusionRule::Vec4F => CodeAnswer::Code(44),
+            ConclusionRule::Vec4I => CodeAnswer::Code(38),
+            ConclusionRule::Vec4U => CodeAnswer::Code(41),
+        }
+    }
+}

@@ -1,0 +1,10 @@
+-- Laws of masks, scalars and answers that several proofs use.
+pub mod Table
+pub mod Filters
+pub mod Sifts
+pub mod Masks
+pub mod Meets
+pub mod Bits
+pub mod Fills
+pub mod Scalars
+pub mod Papers

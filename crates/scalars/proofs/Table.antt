@@ -1,0 +1,58 @@
+-- A rule of a table, proved at all of its entries by one test, computed one entry after the other.
+-- Assumes nothing.
+use mathlib.Core.Path.{_≡_, refl, ap, _∙_, subst, sym}
+use mathlib.Core.Bool.{Bool, true, false, not}
+use mathlib.Core.List.{List, [], _∷_}
+use Prim.Native.Nat.{ℕ, zero, suc, _+_, _<_}
+use native.Mathlib.Nat.{add-zero, zero-add, add-suc, suc-add, le-of-suc-le-suc, not-suc-le-zero}
+use lib.Dec.{T}
+use lib.ListN.{length, getD}
+use Rattle.scalars.specs.Mask.{both}
+
+both-left : (a b : Bool) → T (both a b) → T a
+both-left true b t = tt
+both-left false b t = t
+
+both-right : (a b : Bool) → T (both a b) → T b
+both-right true b t = t
+both-right false b t = absurd t
+
+-- the test f passes at each entry of the list and its place, counted from i
+abbrev pub every : (ℕ → ℕ → Bool) → ℕ → List ℕ → Bool
+every f i [] = true
+every f i (x ∷ xs) = both (f i x) (every f (suc i) xs)
+
+from : (f : ℕ → ℕ → Bool) (xs : List ℕ) (i : ℕ) → T (every f i xs) → (k : ℕ) → k < length xs → T (f (i + k) (getD xs k 0))
+from f [] i t k h = absurd (not-suc-le-zero h)
+from f (x ∷ xs) i t zero h = subst (λ (m : ℕ). T (f m x)) (sym (add-zero i)) (both-left (f i x) (every f (suc i) xs) t)
+from f (x ∷ xs) i t (suc k) h =
+    subst (λ (m : ℕ). T (f m (getD xs k 0))) (suc-add i k ∙ sym (add-suc i k))
+    (from f xs (suc i) (both-right (f i x) (every f (suc i) xs) t) k (le-of-suc-le-suc h))
+
+pub at : (f : ℕ → ℕ → Bool) (xs : List ℕ) → T (every f 0 xs) → (k : ℕ) → k < length xs → T (f k (getD xs k 0))
+at f xs t k h = subst (λ (m : ℕ). T (f m (getD xs k 0))) (zero-add k) (from f xs 0 t k h)
+
+-- two tests agree
+abbrev pub same : Bool → Bool → Bool
+same true b = b
+same false b = not b
+
+pub same→eq : (a b : Bool) → T (same a b) → a ≡ b
+same→eq true true t = refl
+same→eq true false t = absurd t
+same→eq false true t = absurd t
+same→eq false false t = refl
+
+-- a table of a function's values, n of them from i on
+abbrev pub tabulate : (ℕ → ℕ) → ℕ → ℕ → List ℕ
+tabulate f zero i = []
+tabulate f (suc n) i = f i ∷ tabulate f n (suc i)
+
+tabulated : (f : ℕ → ℕ) (n i k : ℕ) → k < n → getD (tabulate f n i) k 0 ≡ f (i + k)
+tabulated f zero i k h = absurd (not-suc-le-zero h)
+tabulated f (suc n) i zero h = ap f (sym (add-zero i))
+tabulated f (suc n) i (suc k) h = tabulated f n (suc i) k (le-of-suc-le-suc h) ∙ ap f (suc-add i k ∙ sym (add-suc i k))
+
+-- an entry of such a table
+pub entry : (f : ℕ → ℕ) (n k : ℕ) → k < n → getD (tabulate f n 0) k 0 ≡ f k
+entry f n k h = tabulated f n 0 k h ∙ ap f (zero-add k)

@@ -1,0 +1,48 @@
+-- Sets of scalars: the sets that the Rust names, what a scalar converts to as a set, and the preferred scalar, which is the lowest.
+use mathlib.Core.Bool.{Bool, not}
+use mathlib.Core.List.{List, [], _∷_}
+use Prim.Native.Nat.{ℕ, _^_}
+use lib.Dec.{ltb}
+use Rattle.scalars.specs.Mask.{choose, both, filter, bits, maskOf}
+use Rattle.scalars.specs.Domain.{scalars, abstract?, integer?, float?, numeric?, converts}
+use Rattle.scalars.specs.declared.refusal.Refusal.the-variants.{EmptySet, Unknown}
+use Rattle.scalars.specs.declared.scalar_set.NamedSets.{NamedSets}
+use Rattle.scalars.specs.declared.scalar_set.ScalarSet.{ScalarSet}
+use Rattle.scalars.specs.declared.scalar_set.ScalarAnswer.{ScalarAnswer}
+use Rattle.scalars.specs.declared.scalar_set.ScalarAnswer.the-variants.{Scalar, Refused}
+
+-- the mask of the scalars that pass
+abbrev pub scalarsThat : (ℕ → Bool) → ℕ
+scalarsThat p = maskOf (filter p scalars)
+
+-- the set of the one scalar, and of those that it converts to; of an unknown one, empty
+unfoldable pub singletonOf : ℕ → ℕ
+singletonOf k = choose (ltb k 12) (2 ^ k) 0
+
+unfoldable pub convertibleFrom : ℕ → ℕ
+convertibleFrom k = choose (ltb k 12) (scalarsThat (converts k)) 0
+
+-- the first of a set's members; of none, refusal 1
+abbrev pub firstScalar : List ℕ → ScalarAnswer
+firstScalar [] = Refused (EmptySet 0)
+firstScalar (k ∷ ks) = Scalar (record { 0 = k })
+
+-- the lowest bit set; an unknown bit is refusal 7
+unfoldable pub mostGeneral : ℕ → ScalarAnswer
+mostGeneral m = choose (ltb m (2 ^ 12)) (firstScalar (bits 12 m)) (Refused (Unknown 0))
+
+-- the sets that the Rust names
+abbrev pub setOf : (ℕ → Bool) → ScalarSet
+setOf p = record { 0 = scalarsThat p }
+
+unfoldable pub namedSets : NamedSets
+namedSets = record {
+  float = setOf float?;
+  integer = setOf integer?;
+  numeric = setOf numeric?;
+  abstracts = setOf abstract?;
+  concrete = setOf (λ k. not (abstract? k));
+  «concrete_integer» = setOf (λ k. both (integer? k) (not (abstract? k)));
+  «concrete_float» = setOf (λ k. both (float? k) (not (abstract? k)));
+  «float_abstract_unimplemented» = setOf (λ k. both (float? k) (not (abstract? k)));
+}

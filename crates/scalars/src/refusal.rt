@@ -1,0 +1,80 @@
+// The refusals of document 01's table, 'Answers by number'.
+//
+// The crate panics, asserts or hands out an index; here each of these is an answer with a number and a place. A case that has a
+// place of its own carries it: a byte offset, an index, or the bytes that are needed. The other cases stand at place 0.
+
+ghost use mathlib.Core.Path.{_≡_};
+ghost use Rattle.scalars.specs.Refusal.{numberOf, placeOf};
+
+pub enum Refusal {
+    // 1: a count, a preferred rule, a preferred scalar or a size is asked of an empty set.
+    EmptySet(usize),
+    // 2: a preferred rule or a size is asked of a set with several constructors.
+    SeveralConstructors,
+    // 3: more rules than a List holds, or more arguments than a rule has.
+    TooMany,
+    // 4: allowed types asked at an index that some member lacks.
+    NoSuchArgument(usize),
+    // 5: a number of arguments that no rule takes.
+    WrongCount(usize),
+    // 6: no rule is left after this argument.
+    NoRuleLeft(usize),
+    // 7: an unknown function, type code or set bit.
+    Unknown(usize),
+    // 8: an expression cut short, an unknown tag, or bytes left over.
+    IllFormed(usize),
+    // 9: one node too many, or one level too deep.
+    TooLarge(usize),
+    // 10: a worksheet longer than the lent buffer; the place is the bytes needed.
+    NoRoom(usize),
+    // 11: a consensus over nothing, with no base.
+    NothingToCombine,
+    // 12: no consensus; the place is the component.
+    NoConsensus(usize),
+    // 13: a Frexp or Modf conclusion for a matrix, or for a scalar but F32, F16 and F64.
+    NoConclusion,
+}
+
+impl Refusal {
+    // The refusal's number, 1 to 13.
+    pub fn number(self) -> u8
+        ensures { λ r. ⌜ r ≡ numberOf self ⌝ }
+    {
+        match self {
+            Refusal::EmptySet(_) => 1,
+            Refusal::SeveralConstructors => 2,
+            Refusal::TooMany => 3,
+            Refusal::NoSuchArgument(_) => 4,
+            Refusal::WrongCount(_) => 5,
+            Refusal::NoRuleLeft(_) => 6,
+            Refusal::Unknown(_) => 7,
+            Refusal::IllFormed(_) => 8,
+            Refusal::TooLarge(_) => 9,
+            Refusal::NoRoom(_) => 10,
+            Refusal::NothingToCombine => 11,
+            Refusal::NoConsensus(_) => 12,
+            Refusal::NoConclusion => 13,
+        }
+    }
+
+    // The refusal's place; 0 where the table gives none.
+    pub fn place(self) -> usize
+        ensures { λ r. ⌜ r ≡ placeOf self ⌝ }
+    {
+        match self {
+            Refusal::EmptySet(at) => at,
+            Refusal::SeveralConstructors => 0,
+            Refusal::TooMany => 0,
+            Refusal::NoSuchArgument(at) => at,
+            Refusal::WrongCount(at) => at,
+            Refusal::NoRuleLeft(at) => at,
+            Refusal::Unknown(at) => at,
+            Refusal::IllFormed(at) => at,
+            Refusal::TooLarge(at) => at,
+            Refusal::NoRoom(at) => at,
+            Refusal::NothingToCombine => 0,
+            Refusal::NoConsensus(at) => at,
+            Refusal::NoConclusion => 0,
+        }
+    }
+}
