@@ -5,10 +5,10 @@ use Rattle.scalars.specs.declared.answer.Verdict.{Verdict}
 use Rattle.scalars.specs.declared.answer.Verdict.the-variants.{Accepted, Refused}
 use Rattle.scalars.specs.declared.refusal.Refusal.{Refusal}
 use Rattle.rules.specs.Verdict.{onVerdict}
-use Rattle.overloads.specs.declared.list.List.{List}
-use Rattle.overloads.specs.declared.list.ListAnswer.{ListAnswer}
+use Rattle.lists.specs.declared.list.List.{List}
+use Rattle.lists.specs.declared.list.ListAnswer.{ListAnswer}
 use Rattle.packing.proofs.Packs.{packs}
-use Rattle.bindings.specs.Sets.{onList}
+use Rattle.handmade.specs.Sets.{onList}
 
 -- of a List that was made, or refused
 module _ {B : Type 0} (pack : B → ℕ) (ask : List → B) (refuse : Refusal → B) {made asked : ListAnswer} {r : ℕ} where

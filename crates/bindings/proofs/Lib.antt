@@ -1,5 +1,3 @@
 -- What the proofs of several functions use.
 mod Answers
-mod ByteRules
-mod ListedRules
 mod Operands

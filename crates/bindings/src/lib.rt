@@ -12,7 +12,8 @@ ghost use Rattle.domain.specs.Conversion.{consensusOf};
 ghost use Rattle.overloads.specs.Call.{callOf, survivorsOfCall};
 ghost use Rattle.functions.specs.Functions.{functionCount, listingOf, ruleAt};
 ghost use Rattle.rules.specs.RulePaper.{rulePaper};
-ghost use Rattle.overloads.specs.CallPaper.{callPaper, survivorsPaper};
+ghost use Rattle.lists.specs.ChosenPaper.{chosenPaper};
+ghost use Rattle.overloads.specs.SurvivorsPaper.{survivorsPaper};
 ghost use Rattle.worksheet.specs.Answer.{bufferAfter};
 ghost use Rattle.worksheet.specs.Typing.{typing, answerOf, typePaper};
 ghost use Rattle.machine.specs.Machine.{runBytes};
@@ -26,12 +27,12 @@ pub use list_sets::azwukran_list_concrete_only;
 pub use list_sets::azwukran_list_preferred;
 use machine::Run;
 use machine::run_worksheet;
-use overloads::CallAnswer;
 use overloads::Survivors;
 use overloads::call_of;
 use overloads::survivors_of;
 use packing::NONE;
 use packing::pack;
+use packing::pack_chosen;
 use packing::pack_refusal;
 use packing::pack_rule_answer;
 pub use regular_sets::azwukran_regular_arg;
@@ -47,15 +48,9 @@ use worksheet::type_expression;
 // at 0, and on at anything else.
 #[no_mangle]
 pub extern "C" fn azwukran_call(function: u8, operands: &[u8], switch: u8) -> u64
-    ensures { λ r. ⌜ r ≡ callPacked (callPaper (callOf functionCount listingOf (on switch) function (now (operands .entry)))) ⌝ }
+    ensures { λ r. ⌜ r ≡ callPacked (chosenPaper (callOf functionCount listingOf (on switch) function (now (operands .entry)))) ⌝ }
 {
-    match call_of(function, operands, switch != 0) {
-        CallAnswer::Refused(why) => pack_refusal(why, NONE, NONE, NONE),
-        CallAnswer::Rule(chosen) => {
-            let rule = chosen.rule;
-            pack(0, chosen.index, rule.result, rule.count, 0)
-        }
-    }
+    pack_chosen(call_of(function, operands, switch != 0))
 }
 
 // The rules of the full listing that survive a call, as a mask; 0 where the call is refused.

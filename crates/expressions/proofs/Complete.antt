@@ -7,7 +7,7 @@ use native.Mathlib.Omega.{arith}
 use borrow.Author.Tests.{le-leb, lt-ltb}
 use lib.ListN.{length, drop, length-append}
 use Rattle.expressions.specs.Tree.{Tree, Trees, leaf, call, none, more, count, bytesOf, bytesOfAll, nodes, nodesAll, levels, levelsAll, Known, KnownAll, mostNodes, lastLeaf}
-use Rattle.expressions.specs.Reading.{done, allDone, inFront, andThen, argsAt, callOf, leafAt, callAt, taggedAt, nodeAt}
+use Rattle.expressions.specs.Reading.{done, allDone, inFront, andThen, argsAt, callNode, leafAt, callAt, taggedAt, nodeAt}
 use Rattle.expressions.proofs.Bytes.{after, leaf-there, call-there}
 
 module _ (functions : ℕ) (s : List ℕ) where
@@ -32,7 +32,7 @@ module _ (functions : ℕ) (s : List ℕ) where
         let number-here = lt-ltb (at + 2) (length s) (x .here) in
         let args = args-complete es d (at + 3) (n + 1) rest (known .1) (omega arith) (omega arith) (x .arguments) in
         simp (tag-here, allowed, x .tag, function-here, x .function, lt-ltb f functions (known .0), number-here, x .number)
-        (ap (callOf f) args ∙ ap₂ (done (call f es)) (omega arith) (omega arith))
+        (ap (callNode f) args ∙ ap₂ (done (call f es)) (omega arith) (omega arith))
 
     pub args-complete : (es : Trees) (d at n : ℕ) (rest : List ℕ) → KnownAll functions es → levelsAll es ≤ d
         → n + nodesAll es ≤ mostNodes → drop at s ≡ bytesOfAll es ++ rest

@@ -12,7 +12,7 @@ use lib.ListN.{length, drop, length-append}
 use Rattle.scalars.specs.Mask.{choose}
 use Rattle.scalars.specs.declared.refusal.Refusal.{Refusal}
 use Rattle.expressions.specs.Tree.{Tree, Trees, count, bytesOf, bytesOfAll, nodes, nodesAll, levels, levelsAll, Known, KnownAll, mostNodes, lastLeaf, leafTag, callTag}
-use Rattle.expressions.specs.Reading.{Reading, done, refused, Readings, allDone, stopped, demand, inFront, andThen, argsAt, callOf, present, byteAt, leafAt, callAt, taggedAt, nodeAt}
+use Rattle.expressions.specs.Reading.{Reading, done, refused, Readings, allDone, stopped, demand, inFront, andThen, argsAt, callNode, present, byteAt, leafAt, callAt, taggedAt, nodeAt}
 use Rattle.expressions.proofs.Bytes.{head-at}
 
 -- the tree e has at most d levels, its bytes reach from `at` to `next`, and its nodes bring the number from n to m
@@ -118,7 +118,7 @@ module _ (functions : ℕ) (s : List ℕ) (d : ℕ) where
 
     call-of-sound : byteAt s at ≡ callTag → byteAt s (at + 1) < functions → at + 2 < length s → (args : Readings)
         → SoundAll functions s d (byteAt s (at + 2)) (at + 3) (n + 1) args
-        → Sound functions s (suc d) at n (callOf (byteAt s (at + 1)) args)
+        → Sound functions s (suc d) at n (callNode (byteAt s (at + 1)) args)
     unfolding bytesOf nodes levels Known
     call-of-sound tag known h (stopped fault) args = tt
     call-of-sound tag known h (allDone es next m) args =

@@ -12,14 +12,14 @@ use Rattle.expressions.specs.Tree.{nodes, deepest}
 use Rattle.expressions.specs.Reading.{Reading, done, refused, Readings, allDone, stopped, Expression, read, refusedAs}
 
 -- where a node's reading got to
-abbrev pub stepOf : Reading → Step
-stepOf (done e at nodes) = Past at nodes
-stepOf (refused fault) = Fault fault
+abbrev pub nodeStep : Reading → Step
+nodeStep (done e at nodes) = Past at nodes
+nodeStep (refused fault) = Fault fault
 
 -- where the reading of arguments got to
-abbrev pub stepOfAll : Readings → Step
-stepOfAll (allDone es at nodes) = Past at nodes
-stepOfAll (stopped fault) = Fault fault
+abbrev pub argumentsStep : Readings → Step
+argumentsStep (allDone es at nodes) = Past at nodes
+argumentsStep (stopped fault) = Fault fault
 
 -- the levels that a node at this depth may have, its own included; the root's depth is 1
 abbrev pub levelsLeft : ℕ → ℕ

@@ -41,9 +41,9 @@ argsAt node zero at nodes = allDone none at nodes
 argsAt node (suc left) at nodes = andThen (node at nodes) (argsAt node left)
 
 -- the call of a function with the arguments that were read
-abbrev pub callOf : ℕ → Readings → Reading
-callOf f (allDone es at nodes) = done (call f es) at nodes
-callOf f (stopped fault) = refused fault
+abbrev pub callNode : ℕ → Readings → Reading
+callNode f (allDone es at nodes) = done (call f es) at nodes
+callNode f (stopped fault) = refused fault
 
 -- the byte at an offset is present
 abbrev pub present : List ℕ → ℕ → Bool
@@ -66,7 +66,7 @@ callAt functions s node at nodes =
     demand (present s (at + 1)) (IllFormed (at + 1))
     (demand (ltb (byteAt s (at + 1)) functions) (Unknown (at + 1))
     (demand (present s (at + 2)) (IllFormed (at + 2))
-    (callOf (byteAt s (at + 1)) (argsAt node (byteAt s (at + 2)) (at + 3) (nodes + 1)))))
+    (callNode (byteAt s (at + 1)) (argsAt node (byteAt s (at + 2)) (at + 3) (nodes + 1)))))
 
 -- a node by its tag, which is known (8)
 unfoldable pub taggedAt : ℕ → List ℕ → (ℕ → ℕ → Reading) → ℕ → ℕ → Reading

@@ -8,11 +8,9 @@
 ghost use mathlib.Core.Path.{_≡_};
 ghost use Prim.Native.Nat.{_<_};
 ghost use lib.ListN.{length};
-ghost use Rattle.functions.specs.Functions.{functionCount};
 ghost use Rattle.expressions.specs.Tree.{mostNodes};
 ghost use Rattle.expressions.specs.Reading.{leafAt, argsAt, nodeAt, expressionOf};
-ghost use Rattle.expressions.specs.FirstPass.{levelsLeft, stepOf, stepOfAll, readOf};
-use functions::FUNCTION_COUNT;
+ghost use Rattle.expressions.specs.FirstPass.{levelsLeft, nodeStep, argumentsStep, readOf};
 use scalars::Refusal;
 
 // An expression has at most so many nodes.
@@ -43,12 +41,12 @@ enum Step {
     Fault(Refusal),
 }
 
-// Reads a whole expression: its number of nodes, or the first fault from front to back. Bytes left over behind the root are the
-// last fault that is looked for.
-pub fn read_expression(bytes: &[u8]) -> Read
-    ensures { λ r. ⌜ r ≡ readOf (expressionOf functionCount (now (bytes .entry))) ⌝ }
+// Reads a whole expression of calls to so many functions: its number of nodes, or the first fault from front to back. Bytes left over
+// behind the root are the last fault that is looked for.
+pub fn read_expression(bytes: &[u8], functions: u8) -> Read
+    ensures { λ r. ⌜ r ≡ readOf (expressionOf functions (now (bytes .entry))) ⌝ }
 {
-    let root = read_node(bytes, 0, 0, 1);
+    let root = read_node(bytes, 0, 0, 1, functions);
     match root {
         Step::Fault(fault) => Read::Refused(fault),
         Step::Past(at, nodes) => {
@@ -61,8 +59,8 @@ pub fn read_expression(bytes: &[u8]) -> Read
 }
 
 // Reads the node at `at`, which has `nodes` nodes before it and stands at the depth `depth`.
-fn read_node(bytes: &[u8], at: usize, nodes: usize, depth: usize) -> Step
-    ensures { λ r. ⌜ r ≡ stepOf (nodeAt functionCount (now (bytes .entry)) (levelsLeft depth) at nodes) ⌝ }
+fn read_node(bytes: &[u8], at: usize, nodes: usize, depth: usize, functions: u8) -> Step
+    ensures { λ r. ⌜ r ≡ nodeStep (nodeAt functions (now (bytes .entry)) (levelsLeft depth) at nodes) ⌝ }
 {
     if bytes.len() <= at {
         return Step::Fault(Refusal::IllFormed(at));
@@ -82,7 +80,7 @@ fn read_node(bytes: &[u8], at: usize, nodes: usize, depth: usize) -> Step
         if bytes.len() <= function {
             return Step::Fault(Refusal::IllFormed(function));
         }
-        if FUNCTION_COUNT <= bytes[function] {
+        if functions <= bytes[function] {
             return Step::Fault(Refusal::Unknown(function));
         }
         let count = at + 2;
@@ -90,29 +88,36 @@ fn read_node(bytes: &[u8], at: usize, nodes: usize, depth: usize) -> Step
             return Step::Fault(Refusal::IllFormed(count));
         }
         let left = bytes[count] as usize;
-        return read_arguments(bytes, at + 3, left, nodes + 1, depth + 1);
+        return read_arguments(bytes, at + 3, left, nodes + 1, depth + 1, functions);
     }
     Step::Fault(Refusal::IllFormed(at))
 }
 
 // Reads `left` nodes one after the other, each at the depth `depth`.
-fn read_arguments(bytes: &[u8], at: usize, left: usize, nodes: usize, depth: usize) -> Step
-    ensures { λ r. ⌜ r ≡ stepOfAll (argsAt (nodeAt functionCount (now (bytes .entry)) (levelsLeft depth)) left at nodes) ⌝ }
+fn read_arguments(
+    bytes: &[u8],
+    at: usize,
+    left: usize,
+    nodes: usize,
+    depth: usize,
+    functions: u8,
+) -> Step
+    ensures { λ r. ⌜ r ≡ argumentsStep (argsAt (nodeAt functions (now (bytes .entry)) (levelsLeft depth)) left at nodes) ⌝ }
 {
     if left == 0 {
         return Step::Past(at, nodes);
     }
-    let one = read_node(bytes, at, nodes, depth);
+    let one = read_node(bytes, at, nodes, depth, functions);
     match one {
         Step::Fault(fault) => Step::Fault(fault),
-        Step::Past(next, passed) => read_arguments(bytes, next, left - 1, passed, depth),
+        Step::Past(next, passed) => read_arguments(bytes, next, left - 1, passed, depth, functions),
     }
 }
 
 // Reads the leaf whose tag is at `at`.
 fn read_leaf(bytes: &[u8], at: usize, nodes: usize) -> Step
     requires { ⌜ (at < length (now bytes)) × (nodes < mostNodes) ⌝ }
-    ensures { λ r. ⌜ r ≡ stepOf (leafAt (now (bytes .entry)) at nodes) ⌝ }
+    ensures { λ r. ⌜ r ≡ nodeStep (leafAt (now (bytes .entry)) at nodes) ⌝ }
 {
     let code = at + 1;
     if bytes.len() <= code {

@@ -17,16 +17,17 @@ use Rattle.rules.specs.Signature.{Signature}
 use Rattle.rules.specs.Verdict.{longest}
 use Rattle.domain.specs.TypeCode.{predeclaredCode}
 use Rattle.regular.specs.Regular.{regularRules, codesOf, concludedOf, allConclude}
-use Rattle.functions.specs.Sequences.{floatScalars, concreteFloatScalars, concreteIntScalars, vectorSizes, vector, matrix, scalarOrVecn}
+use Rattle.listed.specs.Sequences.{floatScalars, concreteFloatScalars, concreteIntScalars, vectorSizes, vector, matrix, scalarOrVecn}
 use Rattle.rules.specs.Rule.{mostArguments, short?}
-use Rattle.functions.specs.Functions.{functionCount, functionSets, functionSetOf, listedRules, rulesIn, listingOf, ruleIn, ruleAt, Built}
+use Rattle.listed.specs.ListedRules.{listedRules}
+use Rattle.functions.specs.Functions.{functionCount, functionSets, functionSetOf, rulesIn, listingOf, ruleIn, ruleAt, Built}
 use Rattle.functions.specs.declared.mathfunction.FunctionSet.{FunctionSet}
 use Rattle.functions.specs.declared.mathfunction.FunctionSet.the-variants as set
 use Rattle.scalars.specs.declared.refusal.Refusal.the-variants.{Unknown}
 use Rattle.regular.specs.declared.regular.Regular.{Regular}
 use Rattle.rules.specs.declared.rule.RuleAnswer.the-variants.{Refused}
-use Rattle.functions.proofs.Prefixes.{every-at, both-true}
-use Rattle.functions.proofs.Runs.{run-at}
+use Rattle.scalars.proofs.Prefixes.{every-at, both-true}
+use Rattle.listed.proofs.Runs.{run-at}
 
 -- ---- a set by its function's number
 

@@ -14,8 +14,8 @@ use Rattle.regular.specs.declared.regular.ConclusionRule.{ConclusionRule}
 use Rattle.regular.proofs.SetPapers.{conclusionOf, conclusion-back}
 use Rattle.functions.specs.declared.mathfunction.FunctionSet.{FunctionSet}
 use Rattle.functions.specs.declared.mathfunction.FunctionSet.the-variants.{Regular, List, Unknown}
-use Rattle.functions.specs.declared.mathfunction.Listed.{Listed}
-use Rattle.functions.specs.declared.mathfunction.Listed.the-variants.{Ldexp, Outer, Refract, Mix, Transpose, ExtractBits, InsertBits}
+use Rattle.listed.specs.declared.listed_rules.Listed.{Listed}
+use Rattle.listed.specs.declared.listed_rules.Listed.the-variants.{Ldexp, Outer, Refract, Mix, Transpose, ExtractBits, InsertBits}
 use Rattle.functions.specs.FunctionPaper.{listedNumber, functionPaper}
 
 abbrev listedOf : ℕ → Listed

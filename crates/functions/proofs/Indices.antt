@@ -18,7 +18,7 @@ use Rattle.regular.specs.declared.regular.Regular.{Regular}
 use Rattle.rules.specs.declared.rule.RuleAnswer.the-variants.{Rule, Refused}
 use Rattle.domain.specs.declared.type_code.CodeAnswer.{CodeAnswer}
 use Rattle.domain.specs.declared.type_code.CodeAnswer.the-variants as code
-use Rattle.functions.proofs.Prefixes.{map-at, both-true}
+use Rattle.scalars.proofs.Prefixes.{map-at, both-true}
 
 -- ---- any listing
 

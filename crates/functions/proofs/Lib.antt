@@ -1,7 +1,4 @@
 -- Laws of the functions and their rules that several proofs use.
-pub mod Prefixes
-pub mod Runs
-pub mod Places
 pub mod Indices
 pub mod Ranks
 pub mod Database

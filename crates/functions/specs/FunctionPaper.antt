@@ -7,8 +7,8 @@ use Rattle.scalars.specs.declared.refusal.Refusal.the-variants as refusal
 use Rattle.regular.specs.SetPaper.{regularValues}
 use Rattle.functions.specs.declared.mathfunction.FunctionSet.{FunctionSet}
 use Rattle.functions.specs.declared.mathfunction.FunctionSet.the-variants.{Regular, List, Unknown}
-use Rattle.functions.specs.declared.mathfunction.Listed.{Listed}
-use Rattle.functions.specs.declared.mathfunction.Listed.the-variants.{Ldexp, Outer, Refract, Mix, Transpose, ExtractBits, InsertBits}
+use Rattle.listed.specs.declared.listed_rules.Listed.{Listed}
+use Rattle.listed.specs.declared.listed_rules.Listed.the-variants.{Ldexp, Outer, Refract, Mix, Transpose, ExtractBits, InsertBits}
 
 -- the functions that have a List, in the order of their numbers
 abbrev pub listedNumber : Listed → ℕ

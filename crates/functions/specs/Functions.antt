@@ -1,25 +1,24 @@
 -- The 79 functions of `mathfunction.rs`, in its order and by its words: each function's overload set, and the full listing of its rules.
 use mathlib.Core.Path.{_≡_}
-use mathlib.Core.Bool.{Bool, true, not}
+use mathlib.Core.Bool.{Bool, true}
 use mathlib.Core.List as L
 use mathlib.Core.List.{[], _∷_, _++_}
 use Prim.Native.Nat.{ℕ, zero, suc, _<_}
 use lib.Dec.{eqb, ltb}
 use lib.ListN.{getD, replicate}
-use Rattle.scalars.specs.Mask.{choose, both, either, filter, maskOf}
-use Rattle.scalars.specs.Domain.{constructors, abstract?, integer?, float?, numeric?}
+use Rattle.scalars.specs.Mask.{choose, either, filter, maskOf}
+use Rattle.scalars.specs.Domain.{constructors, concreteInteger?, concreteFloat?, float?, numeric?}
 use Rattle.rules.specs.Signature.{Signature}
 use Rattle.scalars.specs.Scalar.{setOf}
 use Rattle.domain.specs.Constructor.{vector?}
 use Rattle.rules.specs.Rule.{ruleOf}
 use Rattle.regular.specs.Regular.{Known, regularRules, allConclude}
-use Rattle.functions.specs.Sequences.{floatScalars, concreteFloatScalars, concreteIntScalars, vectorSizes, vector, matrix, scalarOrVecn}
+use Rattle.listed.specs.ListedRules.{listedRules}
 use Rattle.scalars.specs.declared.refusal.Refusal.the-variants.{Unknown}
 use Rattle.domain.specs.declared.constructor_set.ConstructorSet.{ConstructorSet}
 use Rattle.functions.specs.declared.mathfunction.FunctionSet.{FunctionSet}
 use Rattle.functions.specs.declared.mathfunction.FunctionSet.the-variants as set
-use Rattle.functions.specs.declared.mathfunction.Listed.{Listed}
-use Rattle.functions.specs.declared.mathfunction.Listed.the-variants.{Ldexp, Outer, Refract, Mix, Transpose, ExtractBits, InsertBits}
+use Rattle.listed.specs.declared.listed_rules.Listed.the-variants.{Ldexp, Outer, Refract, Mix, Transpose, ExtractBits, InsertBits}
 use Rattle.regular.specs.declared.regular.ConclusionRule.{ConclusionRule}
 use Rattle.regular.specs.declared.regular.ConclusionRule.the-variants as to
 use Rattle.regular.specs.declared.regular.Regular.{Regular}
@@ -66,59 +65,9 @@ scalarOrVector? k = either (scalar? k) (vector? k)
 abbrev pub square? : ℕ → Bool
 square? k = either (eqb k 4) (either (eqb k 8) (eqb k 12))
 
-abbrev pub concreteInteger? : ℕ → Bool
-concreteInteger? k = both (integer? k) (not (abstract? k))
-
-abbrev pub concreteFloat? : ℕ → Bool
-concreteFloat? k = both (float? k) (not (abstract? k))
-
 -- component by component: the result has the argument's type
 abbrev pub componentWise : ℕ → (ℕ → Bool) → FunctionSet
 componentWise n ss = regular n scalarOrVector? ss to.ArgumentType
-
--- ---- Lists: rules by nested sequences, in order of preference
-
--- what a function gives of each element in turn, in the manner of `flat_map`
-abbrev pub each : L.List ℕ → (ℕ → L.List Signature) → L.List Signature
-each [] f = []
-each (x ∷ xs) f = f x ++ each xs f
-
-abbrev pub rule : L.List ℕ → ℕ → L.List Signature
-rule az r = record { arguments = az; result = r } ∷ []
-
--- two sequences side by side
-abbrev pub zip : L.List ℕ → L.List ℕ → (ℕ → ℕ → L.List Signature) → L.List Signature
-zip [] ys f = []
-zip (x ∷ xs) [] f = []
-zip (x ∷ xs) (y ∷ ys) f = f x y ++ zip xs ys f
-
--- the exponent's scalar: ABSTRACT_INT for an abstract mantissa, else I32
-abbrev pub exponentOf : ℕ → ℕ
-exponentOf s = choose (abstract? s) 0 2
-
--- offsets and counts of bits are U32
-abbrev pub u32 : ℕ
-u32 = 5
-
--- Outer takes columns from its left operand; Transpose swaps columns and rows; Mix lists its scalar rules twice
-unfoldable pub listedRules : Listed → L.List Signature
-listedRules Ldexp =
-    each concreteFloatScalars (λ s. zip (scalarOrVecn s) (scalarOrVecn (exponentOf s)) (λ mantissa exponent.
-    rule (mantissa ∷ exponent ∷ []) mantissa))
-listedRules Outer =
-    each vectorSizes (λ columns. each vectorSizes (λ rows. each concreteFloatScalars (λ s.
-    rule (vector columns s ∷ vector rows s ∷ []) (matrix columns rows s))))
-listedRules Refract =
-    each vectorSizes (λ n. each concreteFloatScalars (λ s. rule (vector n s ∷ vector n s ∷ s ∷ []) (vector n s)))
-listedRules Mix =
-    each floatScalars (λ s. each (scalarOrVecn s) (λ input.
-    rule (input ∷ input ∷ input ∷ []) input ++ rule (input ∷ input ∷ s ∷ []) input))
-listedRules Transpose =
-    each vectorSizes (λ a. each vectorSizes (λ b. each floatScalars (λ s. rule (matrix a b s ∷ []) (matrix b a s))))
-listedRules ExtractBits =
-    each concreteIntScalars (λ s. each (scalarOrVecn s) (λ input. rule (input ∷ u32 ∷ u32 ∷ []) input))
-listedRules InsertBits =
-    each concreteIntScalars (λ s. each (scalarOrVecn s) (λ input. rule (input ∷ input ∷ u32 ∷ u32 ∷ []) input))
 
 -- ---- the functions, by number
 

@@ -1,18 +1,12 @@
 // The 79 built-in functions by number: each function's overload set, and the rules of its full listing. naga's
-// `src/proc/overloads/mathfunction.rs` and `utils.rs`, above the crate `rules`.
+// `src/proc/overloads/mathfunction.rs`, above the crates `regular` and `listed`.
 //
-// Each file has the name of the Rust's; beside them stand `listed_rules`, the rules of the functions that have a List, and
-// `full_listing`, a rule by its index. Every public function ends on every input and tests it itself.
+// Beside it stands `full_listing`, a rule by its index. Every public function ends on every input and tests it itself.
 
 mod full_listing;
-mod listed_rules;
 mod mathfunction;
-mod utils;
 
 pub use full_listing::rule_at;
-pub use listed_rules::listed_rule;
-pub use listed_rules::rule_count;
 pub use mathfunction::FUNCTION_COUNT;
 pub use mathfunction::FunctionSet;
-pub use mathfunction::Listed;
 pub use mathfunction::function_set;

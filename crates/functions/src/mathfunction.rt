@@ -7,6 +7,7 @@ ghost use mathlib.Core.Path.{_≡_};
 ghost use Prim.Native.Nat.{_<_, _≤_};
 ghost use Rattle.functions.specs.Functions.{functionSetOf};
 use domain::ConstructorSet;
+use listed::Listed;
 use regular::ConclusionRule;
 use regular::Regular;
 use scalars::ScalarSet;
@@ -18,17 +19,6 @@ pub const FUNCTION_COUNT: u8 = 79;
 const SCALAR_OR_VECN: ConstructorSet = ConstructorSet(0b1111);
 
 const SQUARE: ConstructorSet = ConstructorSet(1 << 4 | 1 << 8 | 1 << 12);
-
-// The functions that have a List.
-pub enum Listed {
-    Ldexp,
-    Outer,
-    Refract,
-    Mix,
-    Transpose,
-    ExtractBits,
-    InsertBits,
-}
 
 // A function's overload set; Unknown where there is no such function.
 pub enum FunctionSet {

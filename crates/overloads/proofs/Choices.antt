@@ -12,7 +12,8 @@ use lib.Seq.{getD-take}
 use borrow.Author.Tests.{ltb-true, ltb-false}
 use Rattle.scalars.specs.Mask.{choose, either}
 use Rattle.rules.specs.Signature.{Signature, reaches, takesAt, takes, concrete}
-use Rattle.overloads.specs.Choice.{Entry, number, keep, Narrowed, left, emptied, narrow, wrongCount, first, concreteStep, afterOperands, resolve}
+use Rattle.lists.specs.Entry.{Entry, number, keep}
+use Rattle.overloads.specs.Choice.{Narrowed, left, emptied, narrow, wrongCount, first, concreteStep, afterOperands, resolve}
 use Rattle.rules.specs.Verdict.{longest}
 use Rattle.overloads.specs.Taking.{Takes, NoRule, Best, OneLength, LeftAfter, Says}
 use Rattle.scalars.proofs.Filters.{both-left, both-right, both-true}

@@ -11,11 +11,12 @@ use lib.ListN.{length, getElem?}
 use borrow.Author.Tests.{ltb-true, ltb-false}
 use Rattle.rules.specs.Signature.{Signature}
 use Rattle.scalars.specs.Mask.{select}
-use Rattle.overloads.specs.Choice.{number, keep, first, Choice, chosen, wrongCount, noneAfter, noneConcrete, resolve}
+use Rattle.lists.specs.Entry.{number, keep}
+use Rattle.overloads.specs.Choice.{first, Choice, chosen, wrongCount, noneAfter, noneConcrete, resolve}
 use Rattle.rules.specs.Verdict.{longest}
 use Rattle.overloads.specs.Taking.{Takes, Taken, NoRule, Best, OneLength, LeftAfter, Emptied, Says}
 use Rattle.overloads.specs.Call.{answered, survivorsOf}
-use Rattle.overloads.specs.declared.call.CallAnswer.the-variants as call
+use Rattle.lists.specs.declared.list.ChosenAnswer.the-variants as call
 use Rattle.overloads.specs.declared.call.Survivors.the-variants as survivors
 use Rattle.scalars.specs.declared.refusal.Refusal.{Refusal}
 use Rattle.overloads.specs.Demand2.{passes, Demand2}

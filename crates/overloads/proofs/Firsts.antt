@@ -10,8 +10,9 @@ use native.Mathlib.Omega.{arith}
 use lib.ListN.{getElem?}
 use Rattle.scalars.specs.Mask.{both, consIf, filter}
 use Rattle.rules.specs.Signature.{Signature}
-use Rattle.overloads.specs.Choice.{Entry, number, keep, chosen, first}
-use Rattle.overloads.proofs.Entries.{keep-filter}
+use Rattle.lists.specs.Entry.{Entry, number, keep}
+use Rattle.overloads.specs.Choice.{chosen, first}
+use Rattle.lists.proofs.Entries.{keep-filter}
 use Rattle.scalars.proofs.Filters.{filter-both}
 
 pub keep-keep : (p q : Signature → Bool) (s : List Entry) → keep q (keep p s) ≡ keep (λ (r : Signature). both (p r) (q r)) s

@@ -9,23 +9,24 @@ use lib.ListN.{length}
 use Rattle.scalars.specs.Mask.{every, bits}
 use Rattle.rules.specs.Signature.{Signature}
 use Rattle.rules.specs.Rule.{short?}
-use Rattle.overloads.specs.List.{signatures, Valid}
+use Rattle.lists.specs.List.{signatures, Valid}
 use Rattle.regular.specs.Regular.{regularRules, codesOf, allConclude, concludedOf, emptySet?}
 use Rattle.domain.specs.TypeCode.{predeclaredCode}
-use Rattle.functions.specs.Sequences.{floatScalars, concreteFloatScalars, concreteIntScalars, vectorSizes, vector, matrix, scalarOrVecn}
-use Rattle.functions.specs.Functions.{functionCount, functionSets, functionSetOf, listedRules, rulesIn, listingOf}
-use Rattle.overloads.specs.Expansion.{listOf}
+use Rattle.listed.specs.Sequences.{floatScalars, concreteFloatScalars, concreteIntScalars, vectorSizes, vector, matrix, scalarOrVecn}
+use Rattle.listed.specs.ListedRules.{listedRules}
+use Rattle.functions.specs.Functions.{functionCount, functionSets, functionSetOf, rulesIn, listingOf}
+use Rattle.lists.specs.Expansion.{listOf}
 use Rattle.overloads.specs.Call.{Callable, Full}
-use Rattle.overloads.specs.declared.list.List as lists
+use Rattle.lists.specs.declared.list.List as lists
 use Rattle.functions.specs.declared.mathfunction.FunctionSet.{FunctionSet}
 use Rattle.functions.specs.declared.mathfunction.FunctionSet.the-variants as set
-use Rattle.functions.specs.declared.mathfunction.Listed.{Listed}
-use Rattle.functions.specs.declared.mathfunction.Listed.the-variants.{Ldexp, Outer, Refract, Mix, Transpose, ExtractBits, InsertBits}
+use Rattle.listed.specs.declared.listed_rules.Listed.{Listed}
+use Rattle.listed.specs.declared.listed_rules.Listed.the-variants.{Ldexp, Outer, Refract, Mix, Transpose, ExtractBits, InsertBits}
 use Rattle.regular.specs.declared.regular.Regular.{Regular}
 use Rattle.overloads.proofs.Callables.{callable?, callable-of}
-use Rattle.functions.proofs.Places.{few-listed}
+use Rattle.listed.proofs.Places.{few-listed}
 use Rattle.functions.proofs.Database.{each-number, few-rules, some-rules}
-use Rattle.overloads.proofs.Expansions.{signatures-of, valid-of}
+use Rattle.lists.proofs.Expansions.{signatures-of, valid-of}
 
 -- ---- Regular sets
 

@@ -1,16 +1,4 @@
--- Laws of Lists, sets and calls that several proofs use; the theorems of Agreement and Demand 2 among them.
-pub mod Entries
-pub mod Lists
-pub mod Steps
-pub mod Cleans
-pub mod Verdicts
-pub mod TypesAt
-pub mod Expanding
-pub mod Expansions
-pub mod InTurn
-pub mod SetSteps
-pub mod Preferred
-pub mod Agreement
+-- Laws of calls that several proofs use; the theorem of Demand 2 among them.
 pub mod ListsOf
 pub mod Firsts
 pub mod Narrowing
@@ -25,4 +13,4 @@ pub mod ListCalls
 pub mod Callables
 pub mod Demand2
 pub mod FunctionCalls
-pub mod CallPapers
+pub mod SurvivorsPapers

@@ -3,41 +3,42 @@
 use mathlib.Core.Path.{_≡_, refl, sym, ap, _∙_, subst, subst⁻¹}
 use mathlib.Core.Bool.{Bool, true, false}
 use mathlib.Core.List as L
-use mathlib.Core.List.{map}
+use mathlib.Core.List.{[], _∷_, map}
 use Prim.Native.Nat.{ℕ, _+_, _^_, _≤_, _<_, zero-le, suc-le-suc}
 use native.Mathlib.Omega.{arith}
 use lib.Count.{trailingZeros}
 use lib.ListN.{length, getD, drop}
 use Rattle.scalars.specs.Mask.{every}
 use Rattle.rules.specs.Signature.{Signature}
-use Rattle.overloads.specs.Choice.{number, left, emptied, narrow, first, resolve}
+use Rattle.lists.specs.Entry.{number}
+use Rattle.overloads.specs.Choice.{left, emptied, narrow, first, resolve}
 use Rattle.rules.specs.Verdict.{longest, countOf}
-use Rattle.overloads.specs.List.{mostRules, acceptedList, signatures, listing, entries, cleanList, kept, Valid}
+use Rattle.lists.specs.List.{mostRules, acceptedList, signatures, listing, entries, cleanList, kept, Valid}
 use Rattle.regular.specs.Regular.{signatureFor, regularRules}
-use Rattle.overloads.specs.Expansion.{listOf, expanded}
+use Rattle.lists.specs.Expansion.{listOf, expanded}
 use Rattle.rules.specs.Rule.{short?}
-use Rattle.overloads.specs.Agreement.{Expands}
+use Rattle.lists.specs.Agreement.{Expands}
 use Rattle.overloads.specs.Call.{answered, membersOf, maskAnswer, survivorsAfter, survivorsOf, Callable, Full}
 use Rattle.scalars.specs.declared.answer.CountAnswer.the-variants as count
-use Rattle.overloads.specs.declared.call.CallAnswer.the-variants as call
+use Rattle.lists.specs.declared.list.ChosenAnswer.the-variants as call
 use Rattle.overloads.specs.declared.call.Survivors.the-variants as survivors
-use Rattle.overloads.specs.declared.list.List.{List}
-use Rattle.overloads.specs.declared.list.ListAnswer.{ListAnswer}
+use Rattle.lists.specs.declared.list.List.{List}
+use Rattle.lists.specs.declared.list.ListAnswer.{ListAnswer}
 use Rattle.scalars.specs.declared.refusal.Refusal.{Refusal}
 use Rattle.scalars.specs.declared.refusal.Refusal.the-variants.{WrongCount}
 use Rattle.regular.specs.declared.regular.Regular.{Regular}
 use Rattle.rules.specs.declared.rule.Rule.{Rule}
 use Rattle.rules.specs.declared.rule.Keep.the-variants.{Argument, Concrete}
-use Rattle.overloads.proofs.Lists.{entries-none, entries-first, member, counted, valid-length}
+use Rattle.lists.proofs.Lists.{entries-none, entries-first, member, valid-length}
 use Rattle.rules.proofs.Records.{zeroRule}
-use Rattle.overloads.proofs.Steps.{entries-kept, kept-valid}
-use Rattle.overloads.proofs.Expansions.{signatures-of, valid-of}
+use Rattle.lists.proofs.Steps.{entries-kept, kept-valid}
+use Rattle.lists.proofs.Expansions.{signatures-of, valid-of}
 use Rattle.regular.proofs.Regulars.{codes-first}
 use Rattle.regular.proofs.RegularRules.{rules-short}
-use Rattle.overloads.proofs.Agreement.{expands}
+use Rattle.lists.proofs.Agreement.{expands}
 use Rattle.overloads.proofs.Narrowing.{Some}
 use Rattle.overloads.proofs.Resolving.{narrow-out, narrow-on, narrow-end, count-wrong, count-right}
-use Rattle.overloads.proofs.ListResolving.{full-entries, full-listing, full-some, left-some, left-members, members-some}
+use Rattle.overloads.proofs.ListResolving.{full-entries, full-listing, left-some, left-members, members-some}
 use Rattle.overloads.proofs.Surviving.{survivors-members}
 
 -- i operands are done: the members are what is left, and the steps to come are the rest of all steps
@@ -93,8 +94,12 @@ module _ (rules : L.List Signature) (ts : L.List ℕ) (switch : Bool) where
   survivors-right e = sym (count-right rules ts _ _ e)
 
 -- of a List whose rules are all members, the longest member's length
+some-count : (rs : L.List Signature) → 0 < length rs → countOf rs ≡ count.Count (longest rs)
+some-count [] h = absurd (omega arith)
+some-count (r ∷ rs) h = refl
+
 pub full-count : (l : List) → Full l → countOf (listing l) ≡ count.Count (longest (signatures l))
-full-count l full = sym (counted l (full .valid) (full-some l full)) ∙ ap (λ (rs : L.List Signature). count.Count (longest rs)) (full-listing l full)
+full-count l full = ap countOf (full-listing l full) ∙ some-count (signatures l) (omega (arith, valid-length l (full .valid), full .some))
 
 pub full-longest : (l : List) → Full l → (n : ℕ) → countOf (listing l) ≡ count.Count n → longest (signatures l) ≡ n
 full-longest l full n e = let f = full-count l full in cc

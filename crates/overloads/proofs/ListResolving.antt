@@ -3,24 +3,24 @@ use mathlib.Core.Path.{_≡_, refl, sym, ap, _∙_, subst⁻¹}
 use mathlib.Core.Bool.{Bool, true, false}
 use mathlib.Core.List as L
 use mathlib.Core.List.{[], _∷_, map}
-use Prim.Native.Nat.{ℕ, zero, suc, _-_, _/_, _^_, _≤_, _<_}
+use Prim.Native.Nat.{ℕ, zero, suc, _-_, _/_, _^_, _<_}
 use native.Mathlib.Omega.{arith}
 use lib.Dec.{eqb}
 use lib.ListN.{length}
-use lib.Pow.{pow-mono}
 use lib.Seq.{take-all}
 use borrow.Author.Tests.{eqb-true, eqb-false}
 use Rattle.scalars.specs.Mask.{choose, consIf, odd, select, countFrom, bits, maskOf}
 use Rattle.rules.specs.Signature.{Signature}
-use Rattle.overloads.specs.Choice.{Entry, number, chosen, first}
-use Rattle.overloads.specs.List.{signatures, listing, entries, Valid}
+use Rattle.lists.specs.Entry.{Entry, number}
+use Rattle.overloads.specs.Choice.{chosen, first}
+use Rattle.lists.specs.List.{signatures, listing, entries, Valid}
 use Rattle.overloads.specs.Call.{membersOf, maskAnswer, Full}
 use Rattle.overloads.specs.declared.call.Survivors.the-variants as survivors
-use Rattle.overloads.specs.declared.list.List.{List}
+use Rattle.lists.specs.declared.list.List.{List}
 use Rattle.scalars.specs.declared.refusal.Refusal.the-variants.{EmptySet}
 use Rattle.scalars.proofs.Bits.{mask-bits}
-use Rattle.overloads.proofs.Entries.{number-length}
-use Rattle.overloads.proofs.Lists.{valid-length, entries-none, entries-first}
+use Rattle.lists.proofs.Entries.{number-length}
+use Rattle.lists.proofs.Lists.{valid-length, entries-none, entries-first}
 use Rattle.scalars.proofs.Masks.{select-none}
 use Rattle.scalars.proofs.Meets.{select-ones}
 use Rattle.overloads.proofs.Narrowing.{Some}
@@ -38,12 +38,6 @@ unfolding listing
 full-listing l full =
     let n : length (signatures l) ≡ l .len = valid-length l (full .valid) in
     ap (select (signatures l)) (full .all) ∙ select-ones (signatures l) (l .len) (omega arith) ∙ take-all (l .len) (signatures l) (omega arith)
-
-pub full-some : (l : List) → Full l → 0 < l .members
-full-some l full =
-    let e : l .members ≡ 2 ^ l .len - 1 = full .all in
-    let p : 2 ^ 1 ≤ 2 ^ l .len = pow-mono (full .some) in
-    omega arith
 
 -- the indices of the entries that a mask picks are the mask's own bits
 indices : (i : ℕ) (rs : L.List Signature) (m : ℕ) → map (λ (x : Entry). x .index) (select (number i rs) m) ≡ select (countFrom i (length rs)) m

@@ -11,8 +11,8 @@ use borrow.Author.Tests.{le-leb}
 use Rattle.scalars.specs.Mask.{choose, padded}
 use Rattle.rules.specs.Signature.{Signature}
 use Rattle.rules.specs.Rule.{blankRule, ruleOf}
-use Rattle.overloads.specs.Expansion.{listOf}
-use Rattle.overloads.specs.declared.list.List.{List}
+use Rattle.lists.specs.Expansion.{listOf}
+use Rattle.lists.specs.declared.list.List.{List}
 use Rattle.rules.specs.declared.rule.Rule.{Rule}
 
 module _ (rs : L.List Signature) where

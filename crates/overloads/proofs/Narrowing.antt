@@ -8,7 +8,8 @@ use native.Mathlib.Omega.{arith}
 use lib.ListN.{length, take}
 use Rattle.rules.specs.Signature.{Signature, takes}
 use Rattle.overloads.specs.Demand2.{takesFrom}
-use Rattle.overloads.specs.Choice.{Entry, keep, Narrowed, left, emptied, unlessEmpty, narrow, chosen, first}
+use Rattle.lists.specs.Entry.{Entry, keep}
+use Rattle.overloads.specs.Choice.{Narrowed, left, emptied, unlessEmpty, narrow, chosen, first}
 use Rattle.overloads.proofs.Firsts.{keep-keep, keep-every}
 
 -- some rule is left, a first one

@@ -13,7 +13,8 @@ use lib.Pow.{pow-pos}
 use borrow.Author.Tests.{ltb-true}
 use Rattle.scalars.specs.Mask.{choose, both, consIf, odd, filter, every, select, countFrom, upTo, bits}
 use Rattle.rules.specs.Signature.{Signature}
-use Rattle.overloads.specs.Choice.{number, keep, chosen, first}
+use Rattle.lists.specs.Entry.{number, keep}
+use Rattle.overloads.specs.Choice.{chosen, first}
 use Rattle.regular.specs.Regular.{pairs}
 use Rattle.overloads.specs.Call.{rank}
 use Rattle.scalars.proofs.Masks.{select-mod, bit-is}

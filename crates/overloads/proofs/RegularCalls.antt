@@ -7,11 +7,12 @@ use Prim.Native.Nat.{ℕ, _+_, _≤_, _<_, zero-le}
 use native.Mathlib.Omega.{arith}
 use lib.ListN.{length, getD, drop}
 use Rattle.scalars.specs.Mask.{bits}
-use Rattle.overloads.specs.Choice.{Entry, number, Narrowed, left, emptied, narrow, wrongCount, afterOperands, resolve}
+use Rattle.lists.specs.Entry.{Entry, number}
+use Rattle.overloads.specs.Choice.{Narrowed, left, emptied, narrow, wrongCount, afterOperands, resolve}
 use Rattle.rules.specs.Verdict.{longest}
 use Rattle.regular.specs.Regular.{Known, signatureFor, regularRules, emptySet?, narrowed, concreteSet}
 use Rattle.overloads.specs.Call.{answered, Callable, preferredIn}
-use Rattle.overloads.specs.declared.call.CallAnswer.the-variants as call
+use Rattle.lists.specs.declared.list.ChosenAnswer.the-variants as call
 use Rattle.scalars.specs.declared.refusal.Refusal.the-variants.{WrongCount}
 use Rattle.regular.specs.declared.regular.Regular.{Regular}
 use Rattle.regular.proofs.Regulars.{codes-first, longest-arity, lowestCode}

@@ -13,11 +13,12 @@ use borrow.Author.Tests.{eqb-true}
 use Rattle.scalars.specs.Mask.{both, either, consIf, filter, every, bits}
 use Rattle.scalars.specs.Domain.{scalars, constructors, abstract?}
 use Rattle.rules.specs.Signature.{Signature, takes, concrete}
-use Rattle.overloads.specs.Choice.{Entry, number, keep, chosen, first}
+use Rattle.lists.specs.Entry.{Entry, number, keep}
+use Rattle.overloads.specs.Choice.{chosen, first}
 use Rattle.rules.specs.Rule.{ruleOf}
 use Rattle.regular.specs.Regular.{Known, pairs, codesOf, signatureFor, regularRules, emptySet?, narrowed, concreteSet, concludes, allConclude, concludedOf, concluded?, ruleFrom, ruleFor, regularRule}
-use Rattle.overloads.specs.Call.{answered, Callable, placeIn, placed, preferredIn}
-use Rattle.overloads.specs.declared.call.CallAnswer.the-variants as call
+use Rattle.overloads.specs.Call.{answered, Callable, placeIn, indexed, preferredIn}
+use Rattle.lists.specs.declared.list.ChosenAnswer.the-variants as call
 use Rattle.scalars.specs.declared.refusal.Refusal.the-variants.{EmptySet}
 use Rattle.regular.specs.declared.regular.Regular.{Regular}
 use Rattle.rules.specs.declared.rule.RuleAnswer.the-variants as rule
@@ -159,7 +160,7 @@ module _ (set left : Regular) (s : List Entry) (h : Holds set left s) where
       go : (ks ns : List ℕ) → bits 13 (left .constructors .0) ≡ ks → bits 12 (left .scalars .0) ≡ ns → preferredIn set ks ns ≡ answered (first s)
       go [] ns c d = sym (ap (λ (x : List Entry). answered (first x)) (left-none (ap₂ pairs c d)))
       go (k ∷ ks) [] c d = sym (ap (λ (x : List Entry). answered (first x)) (left-none (ap₂ pairs c d ∙ pairs-none (k ∷ ks))))
-      go (k ∷ ks) (n ∷ ns) c d = ap (placed (placeIn set k n)) (concluded (callable .concludes) k ks c n ns d) ∙ sym (ap answered (left-first k ks c n ns d))
+      go (k ∷ ks) (n ∷ ns) c d = ap (indexed (placeIn set k n)) (concluded (callable .concludes) k ks c n ns d) ∙ sym (ap answered (left-first k ks c n ns d))
 
   -- what the masks' test says of the entries
   pub holds-none : emptySet? left ≡ true → s ≡ []
@@ -192,7 +193,7 @@ preferred-none set left e = go (eqb (left .constructors .0) 0) (eqb (left .scala
     go false false a b f = let z : _≡_ {A = ℕ} 0 1 = cc in absurd (omega arith)
 
 pub preferred-some : (set left : Regular) → Known set → Known left → emptySet? left ≡ false
-    → placed (placeIn set (trailingZeros 16 (left .constructors .0)) (trailingZeros 16 (left .scalars .0)))
+    → indexed (placeIn set (trailingZeros 16 (left .constructors .0)) (trailingZeros 16 (left .scalars .0)))
     (regularRule (trailingZeros 16 (left .constructors .0) * 12 + trailingZeros 16 (left .scalars .0)) set)
     ≡ preferredIn set (bits 13 (left .constructors .0)) (bits 12 (left .scalars .0))
 preferred-some set left whole known e =
@@ -200,5 +201,5 @@ preferred-some set left whole known e =
     let l = lowest-known left known e in
     let k = trailingZeros 16 (left .constructors .0) in
     let s = trailingZeros 16 (left .scalars .0) in
-    ap (placed (placeIn set k s)) (known-rule set (k * 12 + s) whole (omega (arith, l .0, l .1)))
+    ap (indexed (placeIn set k s)) (known-rule set (k * 12 + s) whole (omega (arith, l .0, l .1)))
     ∙ sym (ap₂ (preferredIn set) (bits-first 16 13 (left .constructors .0) (lit≤ tt) (p .0) (known .constructors)) (bits-first 16 12 (left .scalars .0) (lit≤ tt) (p .1) (known .scalars)))

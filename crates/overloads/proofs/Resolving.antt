@@ -12,7 +12,8 @@ use lib.ListN.{length, getD, drop, drop-of-length-le}
 use borrow.Author.Tests.{lt-ltb, le-ltb, ltb-false}
 use Rattle.scalars.specs.Mask.{choose, either}
 use Rattle.rules.specs.Signature.{Signature, takes}
-use Rattle.overloads.specs.Choice.{Entry, keep, left, emptied, unlessEmpty, narrow, chosen, first}
+use Rattle.lists.specs.Entry.{Entry, keep}
+use Rattle.overloads.specs.Choice.{left, emptied, unlessEmpty, narrow, chosen, first}
 use Rattle.rules.specs.Verdict.{longest}
 use Rattle.domain.proofs.Codes.{from-here}
 use Rattle.overloads.proofs.Narrowing.{Some}

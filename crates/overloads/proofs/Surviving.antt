@@ -10,16 +10,17 @@ use lib.ListN.{length}
 use lib.Seq.{take-all}
 use Rattle.scalars.specs.Mask.{choose, either, select, sift, maskOf}
 use Rattle.rules.specs.Signature.{Signature}
-use Rattle.overloads.specs.Choice.{Entry, number, keep, Narrowed, left, emptied, narrow, wrongCount, first, concreteStep, afterOperands, resolve}
+use Rattle.lists.specs.Entry.{Entry, number, keep}
+use Rattle.overloads.specs.Choice.{Narrowed, left, emptied, narrow, wrongCount, first, concreteStep, afterOperands, resolve}
 use Rattle.rules.specs.Verdict.{longest}
 use Rattle.overloads.specs.Call.{answered, membersOf, survivorsAfter, survivorsOf}
-use Rattle.overloads.specs.declared.call.CallAnswer.the-variants as call
+use Rattle.lists.specs.declared.list.ChosenAnswer.the-variants as call
 use Rattle.overloads.specs.declared.call.Survivors.the-variants as survivors
 use Rattle.scalars.specs.declared.refusal.Refusal.{Refusal}
 use Rattle.scalars.specs.declared.refusal.Refusal.the-variants.{WrongCount}
 use Rattle.scalars.proofs.Masks.{sift-lt}
 use Rattle.scalars.proofs.Meets.{select-ones}
-use Rattle.overloads.proofs.Entries.{number-length, select-keep}
+use Rattle.lists.proofs.Entries.{number-length, select-keep}
 use Rattle.overloads.proofs.Firsts.{keep-keep}
 use Rattle.overloads.proofs.Narrowing.{Narrows, narrow-narrows, Some}
 use Rattle.overloads.specs.Demand2.{takesFrom, permits, passes}

@@ -11,15 +11,16 @@ use lib.ListN.{length}
 use Rattle.scalars.specs.Mask.{choose, either, bits, maskOf}
 use Rattle.scalars.specs.Domain.{firstUnknown}
 use Rattle.rules.specs.Signature.{Signature}
-use Rattle.overloads.specs.Choice.{Entry, number, leastCount, mostCount, Narrowed, left, emptied, narrow, Choice, chosen, wrongCount, noneAfter, noneConcrete, concreteStep, resolve}
+use Rattle.lists.specs.Entry.{Entry, number}
+use Rattle.overloads.specs.Choice.{leastCount, mostCount, Narrowed, left, emptied, narrow, Choice, chosen, wrongCount, noneAfter, noneConcrete, concreteStep, resolve}
 use Rattle.rules.specs.Rule.{ruleOf}
-use Rattle.overloads.specs.List.{Valid}
+use Rattle.lists.specs.List.{Valid}
 use Rattle.regular.specs.Regular.{Known, emptySet?, allConclude, ruleFor}
-use Rattle.overloads.specs.declared.call.CallAnswer.{CallAnswer}
-use Rattle.overloads.specs.declared.call.CallAnswer.the-variants as call
+use Rattle.lists.specs.declared.list.ChosenAnswer.{ChosenAnswer}
+use Rattle.lists.specs.declared.list.ChosenAnswer.the-variants as call
 use Rattle.overloads.specs.declared.call.Survivors.{Survivors}
 use Rattle.overloads.specs.declared.call.Survivors.the-variants as survivors
-use Rattle.overloads.specs.declared.list.List.{List}
+use Rattle.lists.specs.declared.list.List.{List}
 use Rattle.scalars.specs.declared.refusal.Refusal.the-variants.{EmptySet, WrongCount, NoRuleLeft, Unknown}
 use Rattle.regular.specs.declared.regular.Regular.{Regular}
 use Rattle.rules.specs.declared.rule.RuleAnswer.{RuleAnswer}
@@ -28,14 +29,14 @@ use Rattle.rules.specs.declared.rule.RuleAnswer.the-variants as rule
 -- ---- a call
 
 -- the chosen rule with its index in the full listing, or the refusal
-abbrev pub answered : Choice → CallAnswer
+abbrev pub answered : Choice → ChosenAnswer
 answered (chosen i r) = call.Rule (record { index = i; rule = ruleOf r })
 answered wrongCount = call.Refused (WrongCount 0)
 answered (noneAfter k) = call.Refused (NoRuleLeft (1 + k))
 answered noneConcrete = call.Refused (EmptySet 0)
 
 -- an unknown function or type is refusal 7; then the steps
-unfoldable pub callOf : ℕ → (ℕ → L.List Signature) → Bool → ℕ → L.List ℕ → CallAnswer
+unfoldable pub callOf : ℕ → (ℕ → L.List Signature) → Bool → ℕ → L.List ℕ → ChosenAnswer
 callOf functions listingOf switch f ts =
     choose (ltb f functions)
     (choose (ltb (firstUnknown ts) (length ts))
@@ -96,12 +97,12 @@ rank k m = length (bits k m)
 unfoldable pub placeIn : Regular → ℕ → ℕ → ℕ
 placeIn set k s = rank k (set .constructors .0) * length (bits 12 (set .scalars .0)) + rank s (set .scalars .0)
 
-abbrev pub placed : ℕ → RuleAnswer → CallAnswer
-placed i (rule.Rule r) = call.Rule (record { index = i; rule = r })
-placed i (rule.Refused why) = call.Refused why
+abbrev pub indexed : ℕ → RuleAnswer → ChosenAnswer
+indexed i (rule.Rule r) = call.Rule (record { index = i; rule = r })
+indexed i (rule.Refused why) = call.Refused why
 
 -- the first rule of the constructors and scalars that are left, with its index in the full listing
-abbrev pub preferredIn : Regular → L.List ℕ → L.List ℕ → CallAnswer
+abbrev pub preferredIn : Regular → L.List ℕ → L.List ℕ → ChosenAnswer
 preferredIn set [] ss = call.Refused (EmptySet 0)
 preferredIn set (k ∷ ks) [] = call.Refused (EmptySet 0)
-preferredIn set (k ∷ ks) (s ∷ ss) = placed (placeIn set k s) (ruleFor set (k * 12 + s))
+preferredIn set (k ∷ ks) (s ∷ ss) = indexed (placeIn set k s) (ruleFor set (k * 12 + s))

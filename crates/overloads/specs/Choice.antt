@@ -4,23 +4,10 @@ use mathlib.Core.List.{List, [], _∷_}
 use Prim.Native.Nat.{ℕ, suc}
 use lib.Dec.{ltb}
 use lib.ListN.{length}
-use Rattle.scalars.specs.Mask.{choose, either, consIf}
+use Rattle.scalars.specs.Mask.{choose, either}
 use Rattle.rules.specs.Signature.{Signature, takes, concrete}
 use Rattle.rules.specs.Verdict.{longest}
-
--- a rule with its index in the function's full listing
-pub record Entry : Type 0 where
-  pub index : ℕ
-  pub rule : Signature
-
-abbrev pub number : ℕ → List Signature → List Entry
-number i [] = []
-number i (r ∷ rs) = record { index = i; rule = r } ∷ number (suc i) rs
-
--- the rules that pass a test, with their indices, in order
-abbrev pub keep : (Signature → Bool) → List Entry → List Entry
-keep p [] = []
-keep p (x ∷ xs) = consIf (p (x .rule)) x (keep p xs)
+use Rattle.lists.specs.Entry.{Entry, number, keep}
 
 -- both counts, least and most, are the longest rule's
 abbrev pub leastCount : List Signature → ℕ

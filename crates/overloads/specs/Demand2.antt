@@ -14,10 +14,11 @@ use Prim.Native.Nat.{ℕ, suc}
 use Rattle.scalars.specs.Mask.{both, select}
 use Rattle.scalars.specs.declared.refusal.Refusal.{Refusal}
 use Rattle.rules.specs.Signature.{Signature, takes, concrete}
-use Rattle.overloads.specs.Choice.{number, keep, Choice, chosen, first, resolve}
+use Rattle.lists.specs.Entry.{number, keep}
+use Rattle.overloads.specs.Choice.{Choice, chosen, first, resolve}
 use Rattle.overloads.specs.Taking.{Taken, Says}
 use Rattle.overloads.specs.Call.{answered, survivorsOf}
-use Rattle.overloads.specs.declared.call.CallAnswer.the-variants as call
+use Rattle.lists.specs.declared.list.ChosenAnswer.the-variants as call
 use Rattle.overloads.specs.declared.call.Survivors.the-variants as survivors
 
 -- the steps of operands, from an index on, as one test

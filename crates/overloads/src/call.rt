@@ -8,26 +8,22 @@ ghost use mathlib.Core.Path.{_≡_};
 ghost use Prim.Native.Nat.{_≤_, _<_};
 ghost use lib.ListN.{length};
 ghost use Rattle.scalars.specs.Mask.{bits};
-ghost use Rattle.overloads.specs.Choice.{narrow, number, resolve};
-ghost use Rattle.overloads.specs.List.{signatures};
+ghost use Rattle.lists.specs.Entry.{number};
+ghost use Rattle.overloads.specs.Choice.{narrow, resolve};
+ghost use Rattle.lists.specs.List.{signatures};
 ghost use Rattle.regular.specs.Regular.{Known, regularRules};
 ghost use Rattle.overloads.specs.Call.{answered, survivorsOf, survivorsAfter, maskAnswer, Callable, Full, rank, placeIn, preferredIn};
-use crate::expansion::expand;
-use crate::list::Chosen;
-use crate::list::List;
-use crate::walks::filter;
-use crate::walks::longest;
+use lists::Chosen;
+use lists::ChosenAnswer;
+use lists::List;
+use lists::expand;
+use lists::filter;
+use lists::longest;
 use regular::Regular;
 use rules::Keep;
 use rules::RuleAnswer;
 use scalars::CountAnswer;
 use scalars::Refusal;
-
-// The answer to a call: the chosen rule, with its index in the function's full listing.
-pub enum CallAnswer {
-    Rule(Chosen),
-    Refused(Refusal),
-}
 
 // The rules that a call leaves: bit k says that rule k of the function's full listing is one.
 pub enum Survivors {
@@ -37,19 +33,19 @@ pub enum Survivors {
 
 // The rule that a Regular set chooses. Refused 5 for a number of operands that is not its arity, 6 at the operand that leaves no rule,
 // then 1 where the concrete-only step leaves none.
-pub(crate) fn call_regular(set: Regular, operands: &[u8], switch: bool) -> CallAnswer
+pub(crate) fn call_regular(set: Regular, operands: &[u8], switch: bool) -> ChosenAnswer
     requires { ⌜ Callable set ⌝ }
     ensures { λ r. ⌜ r ≡ answered (resolve switch (regularRules set) (now (operands .entry))) ⌝ }
 {
     if operands.len() != (set.arity as usize) {
-        return CallAnswer::Refused(Refusal::WrongCount(0));
+        return ChosenAnswer::Refused(Refusal::WrongCount(0));
     }
     let mut left = set;
     let mut i: usize = 0;
     while i < operands.len() {
         left = left.narrow(operands[i]);
         if left.holds_none() {
-            return CallAnswer::Refused(Refusal::NoRuleLeft(1 + i));
+            return ChosenAnswer::Refused(Refusal::NoRuleLeft(1 + i));
         }
         i += 1;
     }
@@ -60,19 +56,19 @@ pub(crate) fn call_regular(set: Regular, operands: &[u8], switch: bool) -> CallA
 }
 
 // The first of the rules that are left of a set, with its index in the set's full listing. Refused 1 where none is left.
-fn preferred(set: Regular, left: Regular) -> CallAnswer
+fn preferred(set: Regular, left: Regular) -> ChosenAnswer
     requires { ⌜ Known set × Known left ⌝ }
     ensures { λ r. ⌜ r ≡ preferredIn set (bits 13 (left .constructors .0)) (bits 12 (left .scalars .0)) ⌝ }
 {
     if left.holds_none() {
-        return CallAnswer::Refused(Refusal::EmptySet(0));
+        return ChosenAnswer::Refused(Refusal::EmptySet(0));
     }
     let k = u16::trailing_zeros(left.constructors.0);
     let s = u16::trailing_zeros(left.scalars.0);
     let index = place(set, k, s);
     match set.rule_of((k as u8) * 12 + (s as u8)) {
-        RuleAnswer::Refused(why) => CallAnswer::Refused(why),
-        RuleAnswer::Rule(rule) => CallAnswer::Rule(Chosen {
+        RuleAnswer::Refused(why) => ChosenAnswer::Refused(why),
+        RuleAnswer::Rule(rule) => ChosenAnswer::Rule(Chosen {
             index: index,
             rule: rule,
         }),
@@ -99,16 +95,16 @@ fn below(mask: u16, k: u32) -> u32
 }
 
 // The rule that a List chooses: the first that survives. Refused as `survivors_list` is.
-pub(crate) fn call_list(list: List, operands: &[u8], switch: bool) -> CallAnswer
+pub(crate) fn call_list(list: List, operands: &[u8], switch: bool) -> ChosenAnswer
     requires { ⌜ Full list ⌝ }
     ensures { λ r. ⌜ r ≡ answered (resolve switch (signatures list) (now (operands .entry))) ⌝ }
 {
     match survivors_list(list, operands, switch) {
-        Survivors::Refused(why) => CallAnswer::Refused(why),
+        Survivors::Refused(why) => ChosenAnswer::Refused(why),
         Survivors::Members(members) => {
             let n = u64::trailing_zeros(members) as usize;
             let rule = list.rules[n];
-            CallAnswer::Rule(Chosen {
+            ChosenAnswer::Rule(Chosen {
                 index: n as u8,
                 rule: rule,
             })

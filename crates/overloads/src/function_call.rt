@@ -4,7 +4,6 @@
 ghost use mathlib.Core.Path.{_≡_};
 ghost use Rattle.overloads.specs.Call.{callOf, survivorsOfCall};
 ghost use Rattle.functions.specs.Functions.{functionCount, listingOf};
-use crate::call::CallAnswer;
 use crate::call::Survivors;
 use crate::call::call_list;
 use crate::call::call_regular;
@@ -15,23 +14,24 @@ use domain::first_unknown;
 use functions::FUNCTION_COUNT;
 use functions::FunctionSet;
 use functions::function_set;
+use lists::ChosenAnswer;
 use scalars::Refusal;
 
 // The rule that a call of the function with operands of these types means, with its index in the function's full listing. Refused 7 at
 // 0 for the function, at 1 + index for a type; 5 for the number of operands; 6 at 1 + index for the operand that leaves no rule; 1 where
 // the concrete-only switch leaves none.
-pub fn call_of(function: u8, operands: &[u8], switch: bool) -> CallAnswer
+pub fn call_of(function: u8, operands: &[u8], switch: bool) -> ChosenAnswer
     ensures { λ r. ⌜ r ≡ callOf functionCount listingOf switch function (now (operands .entry)) ⌝ }
 {
     if FUNCTION_COUNT <= function {
-        return CallAnswer::Refused(Refusal::Unknown(0));
+        return ChosenAnswer::Refused(Refusal::Unknown(0));
     }
     let known = first_unknown(operands);
     if known < operands.len() {
-        return CallAnswer::Refused(Refusal::Unknown(1 + known));
+        return ChosenAnswer::Refused(Refusal::Unknown(1 + known));
     }
     match function_set(function) {
-        FunctionSet::Unknown => CallAnswer::Refused(Refusal::Unknown(0)),
+        FunctionSet::Unknown => ChosenAnswer::Refused(Refusal::Unknown(0)),
         FunctionSet::Regular(regular) => call_regular(regular, operands, switch),
         FunctionSet::List(listed) => call_list(list_of(listed), operands, switch),
     }

@@ -1,13 +1,13 @@
 // The List of a function that has one: its rules in order, all of them members.
 
 ghost use mathlib.Core.Path.{_≡_};
-ghost use Rattle.overloads.specs.Expansion.{listOf};
-ghost use Rattle.functions.specs.Functions.{listedRules};
-use crate::list::List;
-use crate::list::len_to_full_mask;
-use functions::Listed;
-use functions::listed_rule;
-use functions::rule_count;
+ghost use Rattle.lists.specs.Expansion.{listOf};
+ghost use Rattle.listed.specs.ListedRules.{listedRules};
+use listed::Listed;
+use listed::listed_rule;
+use listed::rule_count;
+use lists::List;
+use lists::len_to_full_mask;
 use rules::Rule;
 
 // The List of a function, all its rules members.

@@ -8,7 +8,7 @@ use Rattle.scalars.specs.Mask.{choose}
 use Rattle.scalars.specs.Paper.{Paper}
 use Rattle.scalars.specs.Refusal.{numberOf}
 use Rattle.rules.specs.Verdict.{onVerdict}
-use Rattle.overloads.specs.declared.list.ListAnswer.{ListAnswer}
+use Rattle.lists.specs.declared.list.ListAnswer.{ListAnswer}
 use Rattle.domain.specs.declared.conversion.Base.{Base}
 use Rattle.domain.specs.declared.conversion.Base.the-variants as base
 use Rattle.machine.specs.declared.machine.Run.{Run}
@@ -17,8 +17,8 @@ use Rattle.machine.specs.declared.machine.Run.the-variants.{Ended, Stopped}
 -- ---- bytes and halves
 
 -- four bytes, the lowest first
-unfoldable pub fourBytes : ℕ → ℕ → ℕ → ℕ → ℕ
-fourBytes a b c d = a + b * 256 + c * 65536 + d * 16777216
+unfoldable pub packedBytes : ℕ → ℕ → ℕ → ℕ → ℕ
+packedBytes a b c d = a + b * 256 + c * 65536 + d * 16777216
 
 -- two halves of 32 bits, the lower first
 unfoldable pub twoHalves : ℕ → ℕ → ℕ
@@ -34,7 +34,7 @@ atMost most n = choose (ltb n most) n most
 
 -- three bytes behind the number, and the place in 32 bits
 unfoldable pub packed : ℕ → ℕ → ℕ → ℕ → ℕ → ℕ
-packed number a b c place = twoHalves (fourBytes number a b c) (atMost 4294967295 place)
+packed number a b c place = twoHalves (packedBytes number a b c) (atMost 4294967295 place)
 
 -- ---- papers
 
@@ -53,12 +53,12 @@ survivorsPacked p = value 0 p
 -- a rule: the number, the four arguments, their count, the result, and the place in 8 bits
 abbrev pub rulePacked : Paper → ℕ
 rulePacked p =
-    twoHalves (fourBytes (p .number) (value 0 p) (value 1 p) (value 2 p))
-    (fourBytes (value 3 p) (value 4 p) (value 5 p) (atMost 255 (p .place)))
+    twoHalves (packedBytes (p .number) (value 0 p) (value 1 p) (value 2 p))
+    (packedBytes (value 3 p) (value 4 p) (value 5 p) (atMost 255 (p .place)))
 
 -- a Regular set: the number, the arity, and the masks of constructors and scalars; the conclusion stays the caller's
 abbrev pub regularPacked : Paper → ℕ
-regularPacked p = twoHalves (fourBytes (p .number) (value 0 p) 0 0) (twoWords (value 1 p) (value 2 p))
+regularPacked p = twoHalves (packedBytes (p .number) (value 0 p) 0 0) (twoWords (value 1 p) (value 2 p))
 
 -- a consensus or the type of an expression: the one value, and the place
 abbrev pub valuePacked : Paper → ℕ

@@ -4,6 +4,7 @@ mod packing;
 
 pub use packing::NONE;
 pub use packing::pack;
+pub use packing::pack_chosen;
 pub use packing::pack_members;
 pub use packing::pack_no_members;
 pub use packing::pack_refusal;

@@ -5,11 +5,13 @@
 ghost use mathlib.Core.Path.{_≡_};
 ghost use Prim.Native.Nat.{_<_};
 ghost use Rattle.scalars.specs.Refusal.{numberOf, placeOf};
-ghost use Rattle.overloads.specs.List.{refusedList};
+ghost use Rattle.lists.specs.List.{refusedList};
 ghost use Rattle.rules.specs.RulePaper.{rulePaper};
+ghost use Rattle.lists.specs.ChosenPaper.{chosenPaper};
 ghost use Rattle.regular.specs.SetPaper.{regularPaper, regularValues};
-ghost use Rattle.packing.specs.Packing.{fourBytes, twoHalves, twoWords, atMost, packed, rulePacked, regularPacked, membersPacked};
-use overloads::ListAnswer;
+ghost use Rattle.packing.specs.Packing.{packedBytes, twoHalves, twoWords, atMost, packed, callPacked, rulePacked, regularPacked, membersPacked};
+use lists::ChosenAnswer;
+use lists::ListAnswer;
 use regular::Regular;
 use regular::RegularAnswer;
 use rules::Rule;
@@ -42,7 +44,7 @@ pub fn pack_refusal(why: Refusal, a: u8, b: u8, c: u8) -> u64
 
 // The number, a rule, and the place in 8 bits.
 fn pack_rule(number: u8, rule: Rule, place: u8) -> u64
-    ensures { λ r. ⌜ r ≡ twoHalves (fourBytes number (rule .a0) (rule .a1) (rule .a2)) (fourBytes (rule .a3) (rule .count) (rule .result) place) ⌝ }
+    ensures { λ r. ⌜ r ≡ twoHalves (packedBytes number (rule .a0) (rule .a1) (rule .a2)) (packedBytes (rule .a3) (rule .count) (rule .result) place) ⌝ }
 {
     halves(
         four(number, rule.a0, rule.a1, rule.a2),
@@ -57,6 +59,19 @@ pub fn pack_rule_answer(answer: RuleAnswer) -> u64
     match answer {
         RuleAnswer::Refused(why) => pack_rule(why.number(), Rule::BLANK, short_place(why.place())),
         RuleAnswer::Rule(rule) => pack_rule(0, rule, 0),
+    }
+}
+
+// The answer where a rule is chosen.
+pub fn pack_chosen(answer: ChosenAnswer) -> u64
+    ensures { λ r. ⌜ r ≡ callPacked (chosenPaper answer) ⌝ }
+{
+    match answer {
+        ChosenAnswer::Refused(why) => pack_refusal(why, NONE, NONE, NONE),
+        ChosenAnswer::Rule(chosen) => {
+            let rule = chosen.rule;
+            pack(0, chosen.index, rule.result, rule.count, 0)
+        }
     }
 }
 
@@ -109,7 +124,7 @@ fn halves(low: u64, high: u64) -> u64
 
 // Four bytes, the lowest first.
 fn four(a: u8, b: u8, c: u8, d: u8) -> u64
-    ensures { λ r. ⌜ (r ≡ fourBytes a b c d) × (r < 4294967296) ⌝ }
+    ensures { λ r. ⌜ (r ≡ packedBytes a b c d) × (r < 4294967296) ⌝ }
 {
     wide(a) + wide(b) * 256 + wide(c) * 65536 + wide(d) * 16777216
 }

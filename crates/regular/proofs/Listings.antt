@@ -9,7 +9,7 @@ use lib.Seq.{sets}
 use Rattle.scalars.specs.Mask.{choose, both, every, padded}
 use Rattle.rules.specs.Rule.{blankRule, ruleOf}
 use Rattle.rules.specs.Listing.{acceptedListing, refusedListing}
-use Rattle.regular.specs.Regular.{codesOf, regularRules, signatureFor, codesFound, concludes, allConclude, listedRules}
+use Rattle.regular.specs.Regular.{codesOf, regularRules, signatureFor, codesFound, concludes, allConclude, concludedListing}
 use Rattle.scalars.specs.declared.answer.CountAnswer.the-variants.{Count}
 use Rattle.scalars.specs.declared.refusal.Refusal.the-variants.{NoConclusion}
 use Rattle.regular.specs.declared.regular.Codes.{Codes}
@@ -47,8 +47,8 @@ module _ (r : Regular) (k : ℕ) (h : k < length (codesOf r)) where
   concludes-next c left = sym (ap (every (concludes r)) (from-here (codesOf r) k h) ∙ ap (λ (b : Bool). both b (every (concludes r) (drop (k + 1) (codesOf r)))) c) ∙ left
 
   pub concludes-not : concludes r (getD (codesOf r) k 0) ≡ false → every (concludes r) (drop k (codesOf r)) ≡ allConclude r
-      → refusedListing NoConclusion ≡ listedRules r
-  unfolding listedRules
+      → refusedListing NoConclusion ≡ concludedListing r
+  unfolding concludedListing
   concludes-not c left =
       sym (ap (λ (b : Bool). choose b (acceptedListing (regularRules r)) (refusedListing NoConclusion))
       (sym left ∙ ap (every (concludes r)) (from-here (codesOf r) k h) ∙ ap (λ (b : Bool). both b (every (concludes r) (drop (k + 1) (codesOf r)))) c))
@@ -72,8 +72,8 @@ listing-starts r {a} e =
 pub listing-ends : (r : Regular) (k n : ℕ) (a : List Rule) → length (codesOf r) ≤ k → n ≡ length (codesOf r)
     → every (concludes r) (drop k (codesOf r)) ≡ allConclude r
     → sets a k (map (λ t. ruleOf (signatureFor r t)) (drop k (codesOf r))) ≡ padded 156 blankRule (map ruleOf (regularRules r))
-    → record { answer = Count n; rules = a } ≡ listedRules r
-unfolding listedRules acceptedListing
+    → record { answer = Count n; rules = a } ≡ concludedListing r
+unfolding concludedListing acceptedListing
 listing-ends r k n a h e c s =
     let none : drop k (codesOf r) ≡ [] = drop-of-length-le (codesOf r) h in
     ap₂ (λ (m : ℕ) (b : List Rule). record { answer = Count m; rules = b }) (e ∙ sym (rules-count r))

@@ -163,11 +163,11 @@ concludes r t = concluded? (concludedOf (r .conclude) t)
 unfoldable pub allConclude : Regular → Bool
 allConclude r = every (concludes r) (codesOf r)
 
-unfoldable pub listedRules : Regular → Listing
-listedRules r = choose (allConclude r) (acceptedListing (regularRules r)) (refusedListing NoConclusion)
+unfoldable pub concludedListing : Regular → Listing
+concludedListing r = choose (allConclude r) (acceptedListing (regularRules r)) (refusedListing NoConclusion)
 
 unfoldable pub regularListing : Regular → Listing
-regularListing r = onVerdict (regularVerdict r) (listedRules r) refusedListing
+regularListing r = onVerdict (regularVerdict r) (concludedListing r) refusedListing
 
 -- the types at an argument; none at or above the arity
 unfoldable pub regularAllowed : ℕ → Regular → AllowedArgs

@@ -7,7 +7,7 @@ ghost use mathlib.Core.Path.{_≡_};
 ghost use mathlib.Core.List.{map};
 ghost use Prim.Native.Nat.{_+_, _*_, _<_, _≤_};
 ghost use Rattle.scalars.specs.Mask.{bits};
-ghost use Rattle.regular.specs.Regular.{Known, regularVerdict, regularEmpty, regularCount, regularArg, regularConcrete, regularPreferred, regularRule, regularListing, regularAllowed, emptySet?, narrowed, concreteSet, reachedScalars, concludedOf, ruleFor, codesOf, codesFound, listedRules, RowFits, put};
+ghost use Rattle.regular.specs.Regular.{Known, regularVerdict, regularEmpty, regularCount, regularArg, regularConcrete, regularPreferred, regularRule, regularListing, regularAllowed, emptySet?, narrowed, concreteSet, reachedScalars, concludedOf, ruleFor, codesOf, codesFound, concludedListing, RowFits, put};
 use domain::CodeAnswer;
 use domain::Constructor;
 use domain::ConstructorSet;
@@ -267,7 +267,7 @@ impl Regular {
     // The rules of a tested set, in order; refused 13 where one has no conclusion.
     fn listed(self) -> Listing
         requires { ⌜ Known self ⌝ }
-        ensures { λ r. ⌜ r ≡ listedRules self ⌝ }
+        ensures { λ r. ⌜ r ≡ concludedListing self ⌝ }
     {
         let found = self.codes();
         let codes = found.codes;

@@ -9,7 +9,7 @@ use crate::set_answers::accepted;
 use crate::set_answers::listing_agrees;
 use crate::set_answers::preferred_agrees;
 use crate::steps::stepped;
-use overloads::expand;
+use lists::expand;
 use regular::Regular;
 use scalars::Verdict;
 use sets::AnyOverloadSet;

@@ -4,7 +4,7 @@
 use crate::records::word;
 use crate::rule_records::same;
 use functions::rule_at;
-use overloads::CallAnswer;
+use lists::ChosenAnswer;
 use overloads::Survivors;
 use overloads::call_of;
 use overloads::survivors_of;
@@ -16,22 +16,30 @@ pub fn agrees(record: &[u8]) -> bool {
     if record.len() < 12 {
         return false;
     }
-    let function = record[0];
-    let index = record[10];
-    let result = record[11];
     if 1 < record[1] {
         return false;
     }
     let switch = record[1] == 1;
-    if !survivors_agree(
-        survivors_of(function, &record[12..], switch),
-        mask_of(&record[2..10]),
-    ) {
+    let operands = &record[12..];
+    if !survivors_agree(record[0], operands, switch, mask_of(record)) {
         return false;
     }
-    match call_of(function, &record[12..], switch) {
-        CallAnswer::Refused(_) => false,
-        CallAnswer::Rule(chosen) => {
+    choice_agrees(record[0], operands, switch, record[10], record[11])
+}
+
+// Whether the survivors are those of the mask.
+fn survivors_agree(function: u8, operands: &[u8], switch: bool, stored: u64) -> bool {
+    match survivors_of(function, operands, switch) {
+        Survivors::Refused(_) => false,
+        Survivors::Members(members) => members == stored,
+    }
+}
+
+// Whether the chosen rule has this index and this result.
+fn choice_agrees(function: u8, operands: &[u8], switch: bool, index: u8, result: u8) -> bool {
+    match call_of(function, operands, switch) {
+        ChosenAnswer::Refused(_) => false,
+        ChosenAnswer::Rule(chosen) => {
             let rule = chosen.rule;
             if chosen.index != index {
                 return false;
@@ -44,14 +52,6 @@ pub fn agrees(record: &[u8]) -> bool {
     }
 }
 
-// Whether the survivors are those of the mask.
-fn survivors_agree(survivors: Survivors, stored: u64) -> bool {
-    match survivors {
-        Survivors::Refused(_) => false,
-        Survivors::Members(members) => members == stored,
-    }
-}
-
 // Whether the rule is the one at that index of the function's full listing.
 fn stands_at(function: u8, index: u8, rule: Rule) -> bool {
     match rule_at(function, index) {
@@ -60,9 +60,9 @@ fn stands_at(function: u8, index: u8, rule: Rule) -> bool {
     }
 }
 
-// The mask of eight bytes, the low one first.
-fn mask_of(bytes: &[u8]) -> u64 {
-    let low = word(bytes, 0) + 65536 * word(bytes, 2);
-    let high = word(bytes, 4) + 65536 * word(bytes, 6);
+// The mask of the eight bytes from the third on, the low one first.
+fn mask_of(record: &[u8]) -> u64 {
+    let low = word(record, 2) + 65536 * word(record, 4);
+    let high = word(record, 6) + 65536 * word(record, 8);
     (low + 4294967296 * high) as u64
 }

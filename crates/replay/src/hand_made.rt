@@ -3,11 +3,11 @@
 
 use crate::records::word;
 use crate::rule_records::RULE_BYTES;
-use crate::rule_records::rules_of;
 use domain::ConstructorSet;
-use overloads::List;
-use overloads::ListAnswer;
-use regular::ConclusionRule;
+use handmade::conclusion_of;
+use handmade::rules_in;
+use lists::List;
+use lists::ListAnswer;
 use regular::Regular;
 use scalars::Refusal;
 use scalars::ScalarSet;
@@ -71,25 +71,9 @@ fn mask_at(bytes: &[u8], at: usize) -> u16 {
     word(bytes, at) as u16
 }
 
-// The conclusion of this number, in the order of the crate's.
-fn conclusion_of(number: u8) -> ConclusionRule {
-    match number {
-        0 => ConclusionRule::ArgumentType,
-        1 => ConclusionRule::Scalar,
-        2 => ConclusionRule::Frexp,
-        3 => ConclusionRule::Modf,
-        4 => ConclusionRule::U32,
-        5 => ConclusionRule::I32,
-        6 => ConclusionRule::Vec2F,
-        7 => ConclusionRule::Vec4F,
-        8 => ConclusionRule::Vec4I,
-        _ => ConclusionRule::Vec4U,
-    }
-}
-
 // The List of rules that stand one behind another.
 pub fn list_of(bytes: &[u8]) -> ListAnswer {
-    List::from_rules(rules_of(bytes), bytes.len() / RULE_BYTES)
+    List::from_rules(rules_in(bytes), bytes.len() / RULE_BYTES)
 }
 
 // A List's answer as one of either kind.

@@ -2,7 +2,7 @@
 //
 // Each list of answers is a file of data/ and a file of src/ under the same name, which holds one public function, `agrees`: whether our
 // answer to a record's question is the stored one. The lists of expressions, `worksheets`, `room` and `limits`, share `typings`.
-// `lists` names them all; `boundary` and `limits` hold document 01's answers in place of the crate's. docs/STORED.md says what the
+// `catalogue` names them all; `boundary` and `limits` hold document 01's answers in place of the crate's. docs/STORED.md says what the
 // records hold.
 
 mod agreement;
@@ -10,12 +10,12 @@ mod allowed;
 mod answers;
 mod boundary;
 mod calls;
+mod catalogue;
 mod combine;
 mod consensus;
 mod convertible;
 mod hand_made;
 mod handsets;
-mod lists;
 mod named_sets;
 mod parts;
 mod records;
@@ -27,7 +27,7 @@ mod tally;
 mod typings;
 mod walk;
 
-use lists::List;
+use catalogue::List;
 use walk::replay;
 
 fn main() {

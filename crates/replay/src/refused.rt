@@ -2,7 +2,7 @@
 
 use crate::answers::is_refusal;
 use crate::records::wide;
-use overloads::CallAnswer;
+use lists::ChosenAnswer;
 use overloads::call_of;
 
 // Whether the call is refused 6 at that argument, with the concrete-only switch off.
@@ -12,7 +12,7 @@ pub fn agrees(record: &[u8]) -> bool {
     }
     let place = 1 + wide(record[1]);
     match call_of(record[0], &record[2..], false) {
-        CallAnswer::Rule(_) => false,
-        CallAnswer::Refused(why) => is_refusal(why, 6, place),
+        ChosenAnswer::Rule(_) => false,
+        ChosenAnswer::Refused(why) => is_refusal(why, 6, place),
     }
 }

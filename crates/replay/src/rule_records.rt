@@ -23,18 +23,6 @@ pub fn rule_at(bytes: &[u8], at: usize) -> Rule {
     }
 }
 
-// The rules that stand one behind another, the first 63 of them; behind the last, the record of no rule.
-pub fn rules_of(bytes: &[u8]) -> [Rule; 63] {
-    let mut rules = [Rule::BLANK; 63];
-    let mut k: usize = 0;
-    while k < 63 {
-        let rule = rule_at(bytes, RULE_BYTES * k);
-        rules[k] = rule;
-        k += 1;
-    }
-    rules
-}
-
 // Whether the first n rules are those that stand in the bytes, and no others do.
 pub fn rules_agree(rules: [Rule; 156], n: usize, bytes: &[u8]) -> bool {
     if 156 < n {

@@ -1,7 +1,7 @@
 // The walk over a list's records.
 
-use crate::lists::List;
-use crate::lists::agrees;
+use crate::catalogue::List;
+use crate::catalogue::agrees;
 use crate::records::load;
 use crate::records::room;
 use crate::records::span_at;

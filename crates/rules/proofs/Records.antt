@@ -1,7 +1,7 @@
 -- A rule's record and what it says: the record of what a rule says, says the same. Assumes nothing.
 use mathlib.Core.Path.{_≡_, refl, ap, ap₂}
 use mathlib.Core.List.{List, [], _∷_, map}
-use Prim.Native.Nat.{ℕ, _≤_}
+use Prim.Native.Nat.{ℕ, _≤_, min}
 use native.Mathlib.Omega.{arith}
 use lib.ListN.{length, take, getD, length-take}
 use Rattle.rules.specs.Signature.{Signature}
@@ -25,10 +25,13 @@ pub record-says : (s : Signature) → length (s .arguments) ≤ 4 → signatureO
 unfolding argumentsOf ruleOf
 record-says s h = ap (λ (ts : List ℕ). record { arguments = ts; result = s .result }) (four (s .arguments) h)
 
--- a record holds at most four arguments
-pub arguments-few : (r : Rule) → length (argumentsOf r) ≤ 4
+-- a record holds as many arguments as its count says, but at most four
+pub arguments-many : (r : Rule) → length (argumentsOf r) ≡ min (r .count) 4
 unfolding argumentsOf
-arguments-few r = simp length-take (omega arith)
+arguments-many r = length-take (r .count) (r .a0 ∷ r .a1 ∷ r .a2 ∷ r .a3 ∷ [])
+
+pub arguments-few : (r : Rule) → length (argumentsOf r) ≤ 4
+arguments-few r = omega (arith, arguments-many r)
 
 pub says-again : (r : Rule) → signatureOf (ruleOf (signatureOf r)) ≡ signatureOf r
 says-again r = record-says (signatureOf r) (arguments-few r)

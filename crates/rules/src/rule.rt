@@ -5,9 +5,9 @@
 
 ghost use mathlib.Core.Path.{_≡_};
 ghost use mathlib.Core.Bool.{not};
-ghost use Prim.Native.Nat.{_≤_, min};
+ghost use Prim.Native.Nat.{min};
 ghost use lib.Dec.{leb};
-ghost use lib.ListN.{getD, replicate};
+ghost use lib.ListN.{length, getD, replicate};
 ghost use Rattle.scalars.specs.Mask.{choose, both, either};
 ghost use Rattle.scalars.specs.Domain.{value?, isAbstract};
 ghost use Rattle.rules.specs.Signature.{reaches, takes, concrete};
@@ -114,6 +114,13 @@ impl Rule {
             count: n,
             result: self.result,
         }
+    }
+
+    // How many arguments the rule has: its count, but no more than it has fields for.
+    pub fn len(self) -> u8
+        ensures { λ r. ⌜ r ≡ length (argumentsOf self) ⌝ }
+    {
+        held(self.count)
     }
 
     // The rule of n arguments of one type.

@@ -8,3 +8,4 @@ pub mod Bits
 pub mod Fills
 pub mod Scalars
 pub mod Papers
+pub mod Prefixes

@@ -1,5 +1,5 @@
 -- 'The domain', by number, and 'Conversion': which scalar converts to which.
-use mathlib.Core.Bool.{Bool}
+use mathlib.Core.Bool.{Bool, not}
 use mathlib.Core.List.{List, [], _∷_}
 use Prim.Native.Nat.{ℕ, suc, _/_, _%_}
 use lib.Dec.{eqb, leb, ltb}
@@ -24,6 +24,12 @@ float? k = either (eqb k 1) (both (leb 8 k) (leb k 10))
 
 abbrev pub numeric? : ℕ → Bool
 numeric? k = either (integer? k) (float? k)
+
+abbrev pub concreteInteger? : ℕ → Bool
+concreteInteger? k = both (integer? k) (not (abstract? k))
+
+abbrev pub concreteFloat? : ℕ → Bool
+concreteFloat? k = both (float? k) (not (abstract? k))
 
 -- a concrete scalar converts only to itself; ABSTRACT_INT to every INTEGER and FLOAT scalar, ABSTRACT_FLOAT to every FLOAT one
 unfoldable pub converts : ℕ → ℕ → Bool

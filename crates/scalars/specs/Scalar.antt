@@ -3,8 +3,8 @@ use mathlib.Core.Bool.{Bool, not}
 use mathlib.Core.List.{List, [], _∷_}
 use Prim.Native.Nat.{ℕ, _^_}
 use lib.Dec.{ltb}
-use Rattle.scalars.specs.Mask.{choose, both, filter, bits, maskOf}
-use Rattle.scalars.specs.Domain.{scalars, abstract?, integer?, float?, numeric?, converts}
+use Rattle.scalars.specs.Mask.{choose, filter, bits, maskOf}
+use Rattle.scalars.specs.Domain.{scalars, abstract?, integer?, float?, numeric?, converts, concreteInteger?, concreteFloat?}
 use Rattle.scalars.specs.declared.refusal.Refusal.the-variants.{EmptySet, Unknown}
 use Rattle.scalars.specs.declared.scalar_set.NamedSets.{NamedSets}
 use Rattle.scalars.specs.declared.scalar_set.ScalarSet.{ScalarSet}
@@ -42,7 +42,7 @@ namedSets = record {
   numeric = setOf numeric?;
   abstracts = setOf abstract?;
   concrete = setOf (λ k. not (abstract? k));
-  «concrete_integer» = setOf (λ k. both (integer? k) (not (abstract? k)));
-  «concrete_float» = setOf (λ k. both (float? k) (not (abstract? k)));
-  «float_abstract_unimplemented» = setOf (λ k. both (float? k) (not (abstract? k)));
+  «concrete_integer» = setOf concreteInteger?;
+  «concrete_float» = setOf concreteFloat?;
+  «float_abstract_unimplemented» = setOf concreteFloat?;
 }

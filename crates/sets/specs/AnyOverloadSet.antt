@@ -2,7 +2,7 @@
 use Prim.Native.Nat.{ℕ}
 use lib.ListN.{replicate}
 use Rattle.rules.specs.Rule.{blankRule}
-use Rattle.overloads.specs.List.{mostRules, listArg, listStep, listEmpty, listCount, listPreferred, listListing, listAllowed}
+use Rattle.lists.specs.List.{mostRules, listArg, listStep, listEmpty, listCount, listPreferred, listListing, listAllowed}
 use Rattle.regular.specs.Regular.{emptyRegular, regularEmpty, regularCount, regularArg, regularConcrete, regularPreferred, regularListing, regularAllowed}
 use Rattle.scalars.specs.declared.answer.Verdict.the-variants as verdict
 use Rattle.scalars.specs.declared.answer.Test.{Test}
@@ -11,10 +11,10 @@ use Rattle.sets.specs.declared.any_overload_set.AnyOverloadSet.{AnyOverl
 use Rattle.sets.specs.declared.any_overload_set.SetKind.{SetKind}
 use Rattle.sets.specs.declared.any_overload_set.SetKind.the-variants as kind
 use Rattle.sets.specs.declared.any_overload_set.AnyAnswer.{AnyAnswer}
-use Rattle.overloads.specs.declared.list.List.{List}
-use Rattle.overloads.specs.declared.list.ListAnswer.{ListAnswer}
-use Rattle.overloads.specs.declared.list.ChosenAnswer.{ChosenAnswer}
-use Rattle.overloads.specs.declared.list.ChosenAnswer.the-variants as chosen
+use Rattle.lists.specs.declared.list.List.{List}
+use Rattle.lists.specs.declared.list.ListAnswer.{ListAnswer}
+use Rattle.lists.specs.declared.list.ChosenAnswer.{ChosenAnswer}
+use Rattle.lists.specs.declared.list.ChosenAnswer.the-variants as chosen
 use Rattle.rules.specs.declared.listing.Listing.{Listing}
 use Rattle.rules.specs.declared.listing.AllowedArgs.{AllowedArgs}
 use Rattle.regular.specs.declared.regular.Regular.{Regular}

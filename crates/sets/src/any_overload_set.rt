@@ -3,9 +3,9 @@
 
 ghost use mathlib.Core.Path.{_≡_};
 ghost use Rattle.sets.specs.AnyOverloadSet.{ofRegular, ofList, anyEmpty, anyCount, anyArg, anyConcrete, anyPreferred, anyListing, anyAllowed, anyRegular, anyList, alone};
-use overloads::ChosenAnswer;
-use overloads::List;
-use overloads::ListAnswer;
+use lists::ChosenAnswer;
+use lists::List;
+use lists::ListAnswer;
 use regular::Regular;
 use regular::RegularAnswer;
 use rules::AllowedArgs;

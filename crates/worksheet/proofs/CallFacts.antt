@@ -20,9 +20,9 @@ use Rattle.rules.proofs.Records.{record-says}
 use Rattle.functions.specs.Functions.{functionCount, listingOf}
 use Rattle.overloads.specs.Call.{answered, callOf}
 use Rattle.scalars.specs.Refusal.{numberOf, placeOf}
-use Rattle.overloads.specs.declared.list.Chosen.{Chosen}
-use Rattle.overloads.specs.declared.call.CallAnswer.{CallAnswer}
-use Rattle.overloads.specs.declared.call.CallAnswer.the-variants as answers
+use Rattle.lists.specs.declared.list.Chosen.{Chosen}
+use Rattle.lists.specs.declared.list.ChosenAnswer.{ChosenAnswer}
+use Rattle.lists.specs.declared.list.ChosenAnswer.the-variants as answers
 use Rattle.scalars.specs.declared.refusal.Refusal.{Refusal}
 use Rattle.scalars.specs.declared.refusal.Refusal.the-variants.{Unknown}
 use Rattle.machine.specs.Machine.{mostOperands}
@@ -57,7 +57,7 @@ module _ (switch : Bool) (f : ℕ) (ts : List ℕ) where
   chose = chose-from (resolve switch (listingOf f) ts) (resolve-says switch (listingOf f) ts (one-length f))
 
   -- what is known of an answer, whatever was asked
-  abbrev Fine : CallAnswer → Type 0
+  abbrev Fine : ChosenAnswer → Type 0
   Fine (answers.Rule x) = length ts ≤ length (argumentsOf (x .rule))
   Fine (answers.Refused why) = numberOf why ≡ 6 → (0 < placeOf why) × (placeOf why ≤ length ts)
 

@@ -15,8 +15,8 @@ use Rattle.overloads.specs.Choice.{Choice, chosen, wrongCount, noneAfter, noneC
 use Rattle.functions.specs.Functions.{functionCount, listingOf}
 use Rattle.overloads.specs.Call.{answered, callOf}
 use Rattle.rules.specs.declared.rule.Rule.{Rule}
-use Rattle.overloads.specs.declared.list.Chosen.{Chosen}
-use Rattle.overloads.specs.declared.call.CallAnswer.the-variants as answers
+use Rattle.lists.specs.declared.list.Chosen.{Chosen}
+use Rattle.lists.specs.declared.list.ChosenAnswer.the-variants as answers
 use Rattle.scalars.specs.declared.refusal.Refusal.{Refusal}
 use Rattle.scalars.specs.declared.refusal.Refusal.the-variants.{EmptySet, WrongCount, NoRuleLeft}
 use Rattle.worksheet.specs.declared.sheet.Sheet.{Sheet}

@@ -8,8 +8,9 @@ use Rattle.rules.specs.Signature.{reaches}
 use Rattle.overloads.specs.Choice.{narrow, resolve}
 use Rattle.rules.specs.Rule.{ruleOf}
 use Rattle.regular.specs.Regular.{codesOf, concludedOf, regularRules}
-use Rattle.functions.specs.Sequences.{floatScalars, concreteFloatScalars, concreteIntScalars, vectorSizes, vector, matrix, scalarOrVecn}
-use Rattle.functions.specs.Functions.{functionSets, functionSetOf, listedRules, listingOf}
+use Rattle.listed.specs.Sequences.{floatScalars, concreteFloatScalars, concreteIntScalars, vectorSizes, vector, matrix, scalarOrVecn}
+use Rattle.listed.specs.ListedRules.{listedRules}
+use Rattle.functions.specs.Functions.{functionSets, functionSetOf, listingOf}
 use Rattle.overloads.specs.Call.{callOf, survivorsOf, survivorsOfCall}
 use Rattle.expressions.specs.Reading.{argsAt, leafAt, callAt, taggedAt, nodeAt, expressionOf}
 use Rattle.machine.specs.Line.{encode}

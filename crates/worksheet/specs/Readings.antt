@@ -10,7 +10,8 @@ use Rattle.domain.specs.declared.conversion.Base.{Base}
 use Rattle.domain.specs.declared.conversion.Base.the-variants as base
 use Rattle.functions.specs.Functions.{functionCount, listingOf}
 use Rattle.overloads.specs.Call.{callOf, survivorsOfCall}
-use Rattle.overloads.specs.CallPaper.{callPaper, survivorsPaper}
+use Rattle.lists.specs.ChosenPaper.{chosenPaper}
+use Rattle.overloads.specs.SurvivorsPaper.{survivorsPaper}
 use Rattle.worksheet.specs.Answer.{enoughBytes}
 use Rattle.worksheet.specs.Typing.{typing, answerOf, typePaper}
 
@@ -20,7 +21,7 @@ row is p = p .number ∷ p .place ∷ map (λ i. getD (p .values) i 255) is
 
 -- of a call the rule's index and its result; the concrete-only switch is off
 abbrev called : ℕ → List ℕ → List ℕ
-called f ts = row (0 ∷ 6 ∷ []) (callPaper (callOf functionCount listingOf false f ts))
+called f ts = row (0 ∷ 6 ∷ []) (chosenPaper (callOf functionCount listingOf false f ts))
 
 -- the mask of the survivors
 abbrev surviving : ℕ → List ℕ → List ℕ

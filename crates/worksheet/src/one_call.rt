@@ -11,10 +11,10 @@ use crate::progress::Verdict;
 use crate::sheet::Sheet;
 use crate::stack::Stack;
 use expressions::MOST_NODES;
+use lists::ChosenAnswer;
 use machine::CALL_LINE;
 use machine::CONVERSION_LINE;
 use machine::SPARE;
-use overloads::CallAnswer;
 use overloads::call_of;
 use rules::Rule;
 use scalars::Refusal;
@@ -45,13 +45,13 @@ pub(crate) fn type_call(
     let operands = &types[from..top];
     let answer = call_of(function, operands, switch);
     match answer {
-        CallAnswer::Refused(why) => Progress {
+        ChosenAnswer::Refused(why) => Progress {
             verdict: Verdict::Wrong(place(why, at, from, starts)),
             at: past,
             stack,
             sheet,
         },
-        CallAnswer::Rule(chosen) => {
+        ChosenAnswer::Rule(chosen) => {
             let rule = chosen.rule;
             let converted = convert(operands, rule, sheet);
             let lined = converted.line(CALL_LINE, function, chosen.index, count);

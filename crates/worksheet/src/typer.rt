@@ -20,6 +20,7 @@ use crate::stack::Stack;
 use expressions::LEAF;
 use expressions::Read;
 use expressions::read_expression;
+use functions::FUNCTION_COUNT;
 use machine::LEAF_LINE;
 use machine::SPARE;
 use scalars::Refusal;
@@ -38,7 +39,7 @@ pub fn type_expression(bytes: &[u8], switch: bool, out: &mut [u8]) -> TypeAnswer
     ensures answer { λ r. ⌜ r ≡ answerOf (typing switch (now (bytes .entry)) (now (out .entry))) ⌝ }
     ensures buffer { λ _. ⌜ now (out .exit) ≡ bufferAfter (typing switch (now (bytes .entry)) (now (out .entry))) (now (out .entry)) ⌝ }
 {
-    let read = read_expression(bytes);
+    let read = read_expression(bytes, FUNCTION_COUNT);
     if let Read::Refused(why) = read {
         return TypeAnswer::Refused(why);
     }

@@ -3,7 +3,7 @@
 -- Assumes nothing.
 use mathlib.Core.Path.{sym, _∙_, refl}
 use Rattle.packing.specs.Packing.{survivorsPacked}
-use Rattle.overloads.specs.CallPaper.{survivorsPaper}
+use Rattle.overloads.specs.SurvivorsPaper.{survivorsPaper}
 use Rattle.overloads.specs.declared.call.Survivors.{Survivors}
 use Rattle.packing.proofs.Packs.{packs}
 use borrow.Author.Needs.{needs}

@@ -1,7 +1,7 @@
 -- `azwukran_list_arg` meets its contract: the members that the List answers are packed, or why it is no List.
 -- Assumes nothing.
 use Rattle.packing.specs.Packing.{membersPacked}
-use Rattle.overloads.specs.List.{listArg, refusedList}
+use Rattle.lists.specs.List.{listArg, refusedList}
 use Rattle.bindings.proofs.Answers.{packs-refused, packs-accepted}
 use borrow.Author.Needs.{needs}
 use Rattle.bindings.proofs.list_sets.azwukran_list_arg.Statement.{statement}

@@ -1,7 +1,7 @@
 -- `azwukran_list_concrete_only` meets its contract: the members that the List answers are packed, or why it is no List.
 -- Assumes nothing.
 use Rattle.packing.specs.Packing.{membersPacked}
-use Rattle.overloads.specs.List.{listStep, refusedList}
+use Rattle.lists.specs.List.{listStep, refusedList}
 use Rattle.rules.specs.declared.rule.Keep.the-variants.{Concrete}
 use Rattle.bindings.proofs.Answers.{packs-refused, packs-accepted}
 use borrow.Author.Needs.{needs}

@@ -1,10 +1,10 @@
 -- `azwukran_list_preferred` meets its contract: the first member is packed, or why there is none.
 -- Assumes nothing.
 use Rattle.packing.specs.Packing.{callPacked}
-use Rattle.overloads.specs.List.{listPreferred}
-use Rattle.overloads.specs.CallPaper.{chosenPaper}
-use Rattle.overloads.specs.declared.list.ChosenAnswer.{ChosenAnswer}
-use Rattle.overloads.specs.declared.list.ChosenAnswer.the-variants.{Refused}
+use Rattle.lists.specs.List.{listPreferred}
+use Rattle.lists.specs.ChosenPaper.{chosenPaper}
+use Rattle.lists.specs.declared.list.ChosenAnswer.{ChosenAnswer}
+use Rattle.lists.specs.declared.list.ChosenAnswer.the-variants.{Refused}
 use Rattle.bindings.proofs.Answers.{packs-refused, packs-accepted}
 use borrow.Author.Needs.{needs}
 use Rattle.bindings.proofs.list_sets.azwukran_list_preferred.Statement.{statement}

@@ -3,7 +3,7 @@
 use mathlib.Core.Path.{sym, ap, _∙_}
 use Rattle.packing.specs.Packing.{regularPacked}
 use Rattle.regular.specs.SetPaper.{regularPaper}
-use Rattle.bindings.specs.Sets.{onRegular}
+use Rattle.handmade.specs.Sets.{onRegular}
 use Rattle.regular.specs.Regular.{regularArg}
 use Rattle.regular.specs.declared.regular.RegularAnswer.{RegularAnswer}
 use Rattle.regular.specs.declared.regular.RegularAnswer.the-variants as regular

@@ -5,7 +5,7 @@ use Rattle.packing.specs.Packing.{rulePacked}
 use Rattle.rules.specs.RulePaper.{rulePaper}
 use Rattle.rules.specs.declared.rule.RuleAnswer.{RuleAnswer}
 use Rattle.rules.specs.declared.rule.RuleAnswer.the-variants as rule
-use Rattle.bindings.specs.Sets.{onRegular}
+use Rattle.handmade.specs.Sets.{onRegular}
 use Rattle.regular.specs.Regular.{regularPreferred}
 use Rattle.regular.specs.declared.regular.RegularAnswer.{RegularAnswer}
 use Rattle.packing.proofs.Packs.{packs}

@@ -7,7 +7,7 @@ use Rattle.overloads.proofs.call.survivors_list.Statement.{statement}
 use Rattle.overloads.proofs.call.survivors_list.Tie as tie
 
 longest-requires : tie.Need-longest-requires
-longest-requires c κs = c .before .pre .valid
+longest-requires c κs = tt
 
 enum-known-why : tie.Need-enum-known-why
 enum-known-why c = search needs

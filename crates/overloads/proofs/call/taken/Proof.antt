@@ -5,7 +5,7 @@ use Prim.Native.Nat.{_+_, _-_}
 use native.Mathlib.Omega.{arith}
 use lib.ListN.{length}
 use Rattle.overloads.specs.Call.{maskAnswer}
-use Rattle.overloads.specs.declared.list.List.{List}
+use Rattle.lists.specs.declared.list.List.{List}
 use Rattle.overloads.proofs.ListCalls.{Reached, reached-start, reached-out, reached-on, reached-end, reached-concrete}
 use Rattle.overloads.proofs.call.taken.Statement.{statement}
 use Rattle.overloads.proofs.call.taken.Tie as tie
@@ -23,7 +23,7 @@ shared-slice-read-t9 : tie.Need-shared-slice-read-t9 Inv-loop μ-loop
 shared-slice-read-t9 c = omega arith
 
 filter-requires : tie.Need-filter-requires Inv-loop μ-loop
-filter-requires c κs = c .before .before .loop .inv .1
+filter-requires c κs = tt
 
 add-t11 : tie.Need-add-t11 Inv-loop μ-loop
 add-t11 c = omega arith
@@ -42,7 +42,7 @@ loop-again c = subst (λ (l : List). Reached (c .before .before .before .before 
     (reached-on _ (c .before .before .before .before .before .before .before .pre) _ _ _ (c .before .before .before .before .before .loop .inv) (c .before .before .before .before .loop-test .taken) (λ e. c .if1 .left (ap (λ (l : List). l .members) (c .before .before .filter .ensures) ∙ e)))
 
 filter-requires-2 : tie.Need-filter-requires-2 Inv-loop μ-loop
-filter-requires-2 c κs = c .before .before .loop .inv .1
+filter-requires-2 c κs = tt
 
 members-requires : tie.Need-members-requires Inv-loop μ-loop
 members-requires c κs = tt

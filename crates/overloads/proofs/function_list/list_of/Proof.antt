@@ -8,10 +8,10 @@ use lib.ListN.{length, drop, length-set, length-map}
 use lib.Seq.{sets}
 use Rattle.scalars.specs.Mask.{padded}
 use Rattle.rules.specs.Rule.{blankRule, ruleOf}
-use Rattle.functions.specs.Functions.{listedRules}
+use Rattle.listed.specs.ListedRules.{listedRules}
 use Rattle.scalars.proofs.Fills.{filled, fill-step, fill-end}
-use Rattle.functions.proofs.Runs.{next-at, past-at}
-use Rattle.functions.proofs.Places.{few-listed}
+use Rattle.listed.proofs.Runs.{next-at, past-at}
+use Rattle.listed.proofs.Places.{few-listed}
 use Rattle.overloads.proofs.ListsOf.{list-built}
 use Rattle.overloads.proofs.function_list.list_of.Statement.{statement}
 use Rattle.overloads.proofs.function_list.list_of.Tie as tie

@@ -1,7 +1,7 @@
 -- `four` meets its contract: each byte is below 256, so the sum of the four is below 2^32 and never wraps.
 -- Assumes nothing.
 use native.Mathlib.Omega.{arith}
-use Rattle.packing.specs.Packing.{fourBytes}
+use Rattle.packing.specs.Packing.{packedBytes}
 use borrow.Author.Needs.{needs}
 use Rattle.packing.proofs.packing.four.Statement.{statement}
 use Rattle.packing.proofs.packing.four.Tie as tie
@@ -37,7 +37,7 @@ add-result-3 : tie.Need-add-result-3
 add-result-3 c = search needs
 
 returns : tie.Need-returns
-unfolding fourBytes
+unfolding packedBytes
 returns c = (omega arith, omega arith)
 
 pub four-spec : {M : Type 1} → statement M

@@ -4,7 +4,7 @@ use Rattle.scalars.specs.Refusal.{numberOf}
 use Rattle.scalars.specs.declared.answer.Verdict.{Verdict}
 use Prim.Native.Nat.{_+_}
 use Rattle.rules.specs.Verdict.{onVerdict}
-use Rattle.overloads.specs.List.{refusedList}
+use Rattle.lists.specs.List.{refusedList}
 use Rattle.packing.proofs.Packs.{packs}
 use borrow.Author.Needs.{needs}
 use Rattle.packing.proofs.packing.pack_members.Statement.{statement}

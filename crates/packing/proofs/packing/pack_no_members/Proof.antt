@@ -1,6 +1,6 @@
 -- `pack_no_members` meets its contract: the List of a refusal is refused by it.
 -- Assumes nothing.
-use Rattle.overloads.specs.List.{refusedList}
+use Rattle.lists.specs.List.{refusedList}
 use borrow.Author.Needs.{needs}
 use Rattle.packing.proofs.packing.pack_no_members.Statement.{statement}
 use Rattle.packing.proofs.packing.pack_no_members.Tie as tie

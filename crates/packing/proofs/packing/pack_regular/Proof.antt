@@ -1,6 +1,6 @@
 -- `pack_regular` meets its contract: both halves are as `regularPacked` has them.
 -- Assumes nothing.
-use Rattle.packing.specs.Packing.{twoHalves, fourBytes, twoWords}
+use Rattle.packing.specs.Packing.{twoHalves, packedBytes, twoWords}
 use borrow.Author.Needs.{needs}
 use Rattle.packing.proofs.packing.pack_regular.Statement.{statement}
 use Rattle.packing.proofs.packing.pack_regular.Tie as tie
@@ -15,7 +15,7 @@ halves-requires : tie.Need-halves-requires
 halves-requires c κs = search needs
 
 returns : tie.Need-returns
-unfolding twoHalves fourBytes twoWords
+unfolding twoHalves packedBytes twoWords
 returns c = search needs
 
 pub pack-regular-spec : {M : Type 1} → statement M

@@ -1,6 +1,6 @@
 -- `pack_rule` meets its contract: both halves are as `rulePacked` has them.
 -- Assumes nothing.
-use Rattle.packing.specs.Packing.{twoHalves, fourBytes}
+use Rattle.packing.specs.Packing.{twoHalves, packedBytes}
 use borrow.Author.Needs.{needs}
 use Rattle.packing.proofs.packing.pack_rule.Statement.{statement}
 use Rattle.packing.proofs.packing.pack_rule.Tie as tie
@@ -15,7 +15,7 @@ halves-requires : tie.Need-halves-requires
 halves-requires c κs = search needs
 
 returns : tie.Need-returns
-unfolding twoHalves fourBytes
+unfolding twoHalves packedBytes
 returns c = search needs
 
 pub pack-rule-spec : {M : Type 1} → statement M

@@ -2,7 +2,7 @@
 -- Assumes nothing.
 use mathlib.Core.Path.{ap, ap₂, _∙_}
 use Prim.Native.Nat.{ℕ}
-use Rattle.packing.specs.Packing.{twoHalves, fourBytes, atMost, rulePacked}
+use Rattle.packing.specs.Packing.{twoHalves, packedBytes, atMost, rulePacked}
 use Rattle.rules.specs.RulePaper.{rulePaper}
 use Rattle.rules.specs.declared.rule.RuleAnswer.{RuleAnswer}
 use Rattle.packing.proofs.Packs.{packs}
@@ -35,7 +35,7 @@ returns : tie.Need-returns
 returns c =
     packs (λ (a : RuleAnswer). rulePacked (rulePaper a))
     (c .pack-rule .ensures
-    ∙ ap₂ (λ (n p : ℕ). twoHalves (fourBytes n 255 255 255) (fourBytes 255 255 255 p)) (c .before .before .before .number .ensures)
+    ∙ ap₂ (λ (n p : ℕ). twoHalves (packedBytes n 255 255 255) (packedBytes 255 255 255 p)) (c .before .before .before .number .ensures)
     (c .before .short-place .ensures ∙ ap (atMost 255) (c .before .before .place .ensures)))
     (c .before .before .before .before .before .answer .given .1)
 

@@ -1,7 +1,6 @@
 -- `ConstructorSet::is_singleton` meets its contract: there are as many members as ones.
 -- Assumes nothing.
 use native.Mathlib.Omega.{arith}
-use lib.Count.{ones}
 use lib.Dec.{eqb}
 use mathlib.Core.Path.{ap}
 use Prim.Native.Nat.{ℕ}

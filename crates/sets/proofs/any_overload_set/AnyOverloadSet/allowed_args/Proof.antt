@@ -2,7 +2,7 @@
 -- Assumes nothing.
 use mathlib.Core.Path.{ap, _∙_}
 use Rattle.sets.specs.AnyOverloadSet.{anyAllowed}
-use Rattle.overloads.specs.List.{listAllowed}
+use Rattle.lists.specs.List.{listAllowed}
 use borrow.Author.Needs.{needs}
 use Rattle.sets.proofs.any_overload_set.AnyOverloadSet.allowed_args.Statement.{statement}
 use Rattle.sets.proofs.any_overload_set.AnyOverloadSet.allowed_args.Tie as tie

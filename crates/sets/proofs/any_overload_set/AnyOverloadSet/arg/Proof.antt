@@ -2,7 +2,7 @@
 -- Assumes nothing.
 use mathlib.Core.Path.{ap, _∙_}
 use Rattle.sets.specs.AnyOverloadSet.{anyArg, anyRegular, anyList}
-use Rattle.overloads.specs.List.{listArg}
+use Rattle.lists.specs.List.{listArg}
 use borrow.Author.Needs.{needs}
 use Rattle.sets.proofs.any_overload_set.AnyOverloadSet.arg.Statement.{statement}
 use Rattle.sets.proofs.any_overload_set.AnyOverloadSet.arg.Tie as tie

@@ -2,7 +2,7 @@
 -- Assumes nothing.
 use mathlib.Core.Path.{ap, _∙_}
 use Rattle.sets.specs.AnyOverloadSet.{anyConcrete, anyRegular, anyList}
-use Rattle.overloads.specs.List.{listStep}
+use Rattle.lists.specs.List.{listStep}
 use Rattle.rules.specs.declared.rule.Keep.the-variants.{Concrete}
 use borrow.Author.Needs.{needs}
 use Rattle.sets.proofs.any_overload_set.AnyOverloadSet.concrete_only.Statement.{statement}

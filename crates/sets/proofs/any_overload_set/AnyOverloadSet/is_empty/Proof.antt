@@ -2,7 +2,7 @@
 -- Assumes nothing.
 use mathlib.Core.Path.{ap, _∙_}
 use Rattle.sets.specs.AnyOverloadSet.{anyEmpty}
-use Rattle.overloads.specs.List.{listEmpty}
+use Rattle.lists.specs.List.{listEmpty}
 use borrow.Author.Needs.{needs}
 use Rattle.sets.proofs.any_overload_set.AnyOverloadSet.is_empty.Statement.{statement}
 use Rattle.sets.proofs.any_overload_set.AnyOverloadSet.is_empty.Tie as tie

@@ -2,7 +2,7 @@
 -- Assumes nothing.
 use mathlib.Core.Path.{ap, _∙_}
 use Rattle.sets.specs.AnyOverloadSet.{anyCount}
-use Rattle.overloads.specs.List.{listCount}
+use Rattle.lists.specs.List.{listCount}
 use borrow.Author.Needs.{needs}
 use Rattle.sets.proofs.any_overload_set.AnyOverloadSet.max_arguments.Statement.{statement}
 use Rattle.sets.proofs.any_overload_set.AnyOverloadSet.max_arguments.Tie as tie

@@ -2,7 +2,7 @@
 -- Assumes nothing.
 use mathlib.Core.Path.{ap, _∙_}
 use Rattle.sets.specs.AnyOverloadSet.{anyPreferred, alone}
-use Rattle.overloads.specs.List.{listPreferred}
+use Rattle.lists.specs.List.{listPreferred}
 use borrow.Author.Needs.{needs}
 use Rattle.sets.proofs.any_overload_set.AnyOverloadSet.most_preferred.Statement.{statement}
 use Rattle.sets.proofs.any_overload_set.AnyOverloadSet.most_preferred.Tie as tie

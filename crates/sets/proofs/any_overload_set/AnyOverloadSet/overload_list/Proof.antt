@@ -2,7 +2,7 @@
 -- Assumes nothing.
 use mathlib.Core.Path.{ap, _∙_}
 use Rattle.sets.specs.AnyOverloadSet.{anyListing}
-use Rattle.overloads.specs.List.{listListing}
+use Rattle.lists.specs.List.{listListing}
 use borrow.Author.Needs.{needs}
 use Rattle.sets.proofs.any_overload_set.AnyOverloadSet.overload_list.Statement.{statement}
 use Rattle.sets.proofs.any_overload_set.AnyOverloadSet.overload_list.Tie as tie

@@ -1,0 +1,27 @@
+-- `with_rules` meets its contract: what is left of the mask below the bit behind the last rule.
+-- Assumes nothing.
+use mathlib.Core.Path.{ap, _∙_, subst⁻¹}
+use Prim.Native.Nat.{ℕ, _%_, _^_, _<_}
+use native.Mathlib.Omega.{arith}
+use lib.Pow.{pow-pos}
+use borrow.Author.Needs.{needs}
+use Rattle.scalars.proofs.Masks.{bit-is}
+use Rattle.lists.proofs.walks.with_rules.Statement.{statement}
+use Rattle.lists.proofs.walks.with_rules.Tie as tie
+
+held-requires : tie.Need-held-requires
+held-requires c κs = search needs
+
+shl-result : tie.Need-shl-result
+shl-result c = omega (arith, c .held .ensures)
+
+rem-result : tie.Need-rem-result
+rem-result c = subst⁻¹ (λ (b : ℕ). 0 < b) (bit-is 64 (c .before .held .result) (omega (arith, c .before .held .ensures))) (pow-pos (c .before .held .result))
+
+returns : tie.Need-returns
+returns c =
+    ap (λ (b : ℕ). c .before .before .args .list .members % b) (bit-is 64 (c .before .held .result) (omega (arith, c .before .held .ensures)))
+    ∙ ap (λ (k : ℕ). c .before .before .args .list .members % 2 ^ k) (c .before .held .ensures)
+
+pub with-rules-spec : {M : Type 1} → statement M
+with-rules-spec = tie.close (tie.spec held-requires shl-result rem-result returns)

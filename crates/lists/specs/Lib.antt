@@ -1,0 +1,6 @@
+-- What a reader must believe of this crate.
+pub mod Entry
+pub mod List
+pub mod Expansion
+pub mod Agreement
+pub mod ChosenPaper

@@ -1,0 +1,17 @@
+// Lists of rules: naga's `src/proc/overloads/list.rs`, above the crates `rules` and `regular`.
+//
+// Beside `list` stand `walks`, the loops over a List's members, and `expansion`, a Regular set as a List. Every public function ends on
+// every input and tests it itself.
+
+mod expansion;
+mod list;
+mod walks;
+
+pub use expansion::expand;
+pub use list::Chosen;
+pub use list::ChosenAnswer;
+pub use list::List;
+pub use list::ListAnswer;
+pub use list::len_to_full_mask;
+pub use walks::filter;
+pub use walks::longest;

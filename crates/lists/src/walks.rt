@@ -1,0 +1,133 @@
+// The walks over the members of a List, lowest bit first; each member's number is had by counting trailing zeros. `filter` and `longest`
+// take any List; the others one that was tested.
+
+ghost use mathlib.Core.Path.{_≡_};
+ghost use Prim.Native.Nat.{_%_, _^_, min};
+ghost use Rattle.rules.specs.Listing.{acceptedListing};
+ghost use Rattle.lists.specs.List.{Valid, kept, preferredOf, allowedOf, listing, entries};
+ghost use Rattle.rules.specs.Verdict.{countOf};
+use crate::list::Chosen;
+use crate::list::ChosenAnswer;
+use crate::list::List;
+use crate::list::held;
+use rules::AllowedArgs;
+use rules::Keep;
+use rules::Listing;
+use rules::no_codes;
+use rules::no_rules;
+use rules::no_types;
+use scalars::CountAnswer;
+use scalars::Refusal;
+
+// The members that pass a test: one walk for every step.
+pub fn filter(list: List, keep: Keep) -> List
+    ensures { λ r. ⌜ r ≡ kept keep list ⌝ }
+{
+    let mut rest = with_rules(list);
+    let mut left: u64 = 0;
+    while rest != 0 {
+        let n = u64::trailing_zeros(rest) as usize;
+        let bit = 1u64 << n;
+        let rule = list.rules[n];
+        if rule.passes(keep) {
+            left += bit;
+        }
+        rest -= bit;
+    }
+    let rules = list.rules;
+    List {
+        rules: rules,
+        len: list.len,
+        members: left,
+    }
+}
+
+// The longest member's number of arguments. Refused 1 where no member is left.
+pub fn longest(list: List) -> CountAnswer
+    ensures { λ r. ⌜ r ≡ countOf (listing list) ⌝ }
+{
+    let mut rest = with_rules(list);
+    if rest == 0 {
+        return CountAnswer::Refused(Refusal::EmptySet(0));
+    }
+    let mut best: u8 = 0;
+    while rest != 0 {
+        let n = u64::trailing_zeros(rest) as usize;
+        let rule = list.rules[n];
+        let count = rule.len();
+        if best < count {
+            best = count;
+        }
+        rest -= 1u64 << n;
+    }
+    CountAnswer::Count(best)
+}
+
+// The members that have a rule: every member of a tested List.
+fn with_rules(list: List) -> u64
+    ensures { λ r. ⌜ r ≡ list .members % 2 ^ min (list .len) 63 ⌝ }
+{
+    list.members % (1u64 << held(list.len))
+}
+
+// The first member.
+pub(crate) fn first(list: List) -> ChosenAnswer
+    requires { ⌜ Valid list ⌝ }
+    ensures { λ r. ⌜ r ≡ preferredOf (entries list) ⌝ }
+{
+    let rest = list.members;
+    if rest == 0 {
+        return ChosenAnswer::Refused(Refusal::EmptySet(0));
+    }
+    let lowest = u64::trailing_zeros(rest) as usize;
+    let rule = list.rules[lowest];
+    ChosenAnswer::Rule(Chosen {
+        index: lowest as u8,
+        rule: rule,
+    })
+}
+
+// The members' rules.
+pub(crate) fn listed(list: List) -> Listing
+    requires { ⌜ Valid list ⌝ }
+    ensures { λ r. ⌜ r ≡ acceptedListing (listing list) ⌝ }
+{
+    let mut out = no_rules();
+    let mut count: usize = 0;
+    let mut rest = list.members;
+    while rest != 0 {
+        let n = u64::trailing_zeros(rest) as usize;
+        let rule = list.rules[n];
+        out[count] = rule;
+        count += 1;
+        rest -= 1u64 << n;
+    }
+    Listing {
+        answer: CountAnswer::Count(count as u8),
+        rules: out,
+    }
+}
+
+// The members' types at an argument.
+pub(crate) fn allowed(list: List, i: usize) -> AllowedArgs
+    requires { ⌜ Valid list ⌝ }
+    ensures { λ r. ⌜ r ≡ allowedOf i (listing list) ⌝ }
+{
+    let mut out = no_codes();
+    let mut count: usize = 0;
+    let mut rest = list.members;
+    while rest != 0 {
+        let n = u64::trailing_zeros(rest) as usize;
+        let rule = list.rules[n];
+        if (rule.count as usize) <= i {
+            return no_types(Refusal::NoSuchArgument(i));
+        }
+        out[count] = rule.argument(i);
+        count += 1;
+        rest -= 1u64 << n;
+    }
+    AllowedArgs {
+        answer: CountAnswer::Count(count as u8),
+        codes: out,
+    }
+}
