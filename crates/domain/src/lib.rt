@@ -28,4 +28,3 @@ pub use type_code::first_unknown;
 pub use type_code::is_abstract;
 pub use type_code::leaf_scalar;
 pub use type_code::type_parts;
-pub use type_code::value_code;

@@ -83,7 +83,7 @@ pub fn code_of(parts: TypeParts) -> CodeAnswer
 }
 
 // The code of a value type.
-pub fn value_code(constructor: Constructor, scalar: Scalar) -> CodeAnswer
+pub(crate) fn value_code(constructor: Constructor, scalar: Scalar) -> CodeAnswer
     ensures { λ r. ⌜ r ≡ valueCode (constructor .0) (scalar .0) ⌝ }
 {
     let k = constructor.0;
