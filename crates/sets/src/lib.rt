@@ -1,4 +1,4 @@
-// Sets of either kind: naga's `src/proc/overloads/any_overload_set.rs`, above the crates `regular` and `overloads`. Every public function
+// Sets of either kind: naga's `src/proc/overloads/any_overload_set.rs`, above the crates `regular` and `lists`. Every public function
 // ends on every input and tests it itself.
 
 mod any_overload_set;
