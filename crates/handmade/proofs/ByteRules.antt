@@ -12,25 +12,25 @@ use Rattle.scalars.proofs.Fills.{filled}
 use Rattle.rules.specs.Rule.{blankRule}
 use Rattle.rules.specs.declared.rule.Rule.{Rule}
 use Rattle.listed.proofs.Runs.{numbered, next-at, past-at}
-use Rattle.handmade.specs.Sets.{ruleIn, rulesIn}
+use Rattle.handmade.specs.Sets.{byteRule, byteRules}
 
 module _ (s : List ℕ) where
-  pub rules-length : length (rulesIn s) ≡ 63
-  unfolding rulesIn
-  rules-length = length-map (upTo 63) (ruleIn s) ∙ upTo-length 63
+  pub rules-length : length (byteRules s) ≡ 63
+  unfolding byteRules
+  rules-length = length-map (upTo 63) (byteRule s) ∙ upTo-length 63
 
   -- the k-th, then what is left
-  pub rules-next : (k : ℕ) → k < 63 → drop k (rulesIn s) ≡ ruleIn s k ∷ drop (k + 1) (rulesIn s)
-  unfolding rulesIn
+  pub rules-next : (k : ℕ) → k < 63 → drop k (byteRules s) ≡ byteRule s k ∷ drop (k + 1) (byteRules s)
+  unfolding byteRules
   rules-next k h =
-      next-at blankRule (rulesIn s) k (omega (arith, rules-length))
-      ∙ ap (λ (r : Rule). r ∷ drop (k + 1) (rulesIn s)) (numbered blankRule (rulesIn s) (ruleIn s) 63 k refl h)
+      next-at blankRule (byteRules s) k (omega (arith, rules-length))
+      ∙ ap (λ (r : Rule). r ∷ drop (k + 1) (byteRules s)) (numbered blankRule (byteRules s) (byteRule s) 63 k refl h)
 
-  pub rules-filled : sets (replicate 63 blankRule) 0 (rulesIn s) ≡ rulesIn s
+  pub rules-filled : sets (replicate 63 blankRule) 0 (byteRules s) ≡ byteRules s
   rules-filled =
-      filled 63 blankRule (rulesIn s) (omega (arith, rules-length))
-      ∙ ap (λ (n : ℕ). rulesIn s ++ replicate (63 - n) blankRule) rules-length
-      ∙ append-nil (rulesIn s)
+      filled 63 blankRule (byteRules s) (omega (arith, rules-length))
+      ∙ ap (λ (n : ℕ). byteRules s ++ replicate (63 - n) blankRule) rules-length
+      ∙ append-nil (byteRules s)
 
-  pub rules-past : (k : ℕ) → 63 ≤ k → drop k (rulesIn s) ≡ []
-  rules-past k h = past-at blankRule (rulesIn s) k (omega (arith, rules-length))
+  pub rules-past : (k : ℕ) → 63 ≤ k → drop k (byteRules s) ≡ []
+  rules-past k h = past-at blankRule (byteRules s) k (omega (arith, rules-length))

@@ -58,8 +58,8 @@ listedAt i l = within (l .answer) (l .rules) i
 -- ---- a List: six bytes a rule, and the mask of the members
 
 -- the rule whose bytes begin at 6 x k: four arguments, their count, the result; behind the last whole one, the blank rule
-unfoldable pub ruleIn : L.List ℕ → ℕ → Rule
-ruleIn s k =
+unfoldable pub byteRule : L.List ℕ → ℕ → Rule
+byteRule s k =
     choose (leb (6 * k + 6) (length s))
     (record {
       a0 = getD s (6 * k) 0;
@@ -72,14 +72,14 @@ ruleIn s k =
     blankRule
 
 -- the rules, as far as the array of a List holds them
-unfoldable pub rulesIn : L.List ℕ → L.List Rule
-rulesIn s = map (ruleIn s) (upTo mostRules)
+unfoldable pub byteRules : L.List ℕ → L.List Rule
+byteRules s = map (byteRule s) (upTo mostRules)
 
 -- a rule cut short is refusal 8, where it begins
 unfoldable pub listFrom : L.List ℕ → ℕ → ListAnswer
 listFrom s members =
     choose (eqb (length s % 6) 0)
-    (acceptedList (record { rules = rulesIn s; len = length s / 6; members = members }))
+    (acceptedList (record { rules = byteRules s; len = length s / 6; members = members }))
     (refusedList (IllFormed (length s / 6 * 6)))
 
 -- what is asked of the List, or its refusal

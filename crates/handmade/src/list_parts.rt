@@ -3,7 +3,7 @@
 
 ghost use mathlib.Core.Path.{_≡_};
 ghost use Prim.Native.Nat.{_<_};
-ghost use Rattle.handmade.specs.Sets.{ruleIn, rulesIn, listFrom};
+ghost use Rattle.handmade.specs.Sets.{byteRule, byteRules, listFrom};
 use lists::List;
 use lists::ListAnswer;
 use rules::Rule;
@@ -43,7 +43,7 @@ pub fn list_from(bytes: &[u8], members: u64) -> ListAnswer
 
 // The rules, as far as the array of a List holds them.
 pub fn rules_in(bytes: &[u8]) -> [Rule; 63]
-    ensures { λ r. ⌜ r ≡ rulesIn (now (bytes .entry)) ⌝ }
+    ensures { λ r. ⌜ r ≡ byteRules (now (bytes .entry)) ⌝ }
 {
     let mut out = [Rule::BLANK; 63];
     let mut k: usize = 0;
@@ -57,7 +57,7 @@ pub fn rules_in(bytes: &[u8]) -> [Rule; 63]
 // The k-th rule; behind the last whole one, the blank rule.
 fn rule_in(bytes: &[u8], k: usize) -> Rule
     requires { ⌜ k < 63 ⌝ }
-    ensures { λ r. ⌜ r ≡ ruleIn (now (bytes .entry)) k ⌝ }
+    ensures { λ r. ⌜ r ≡ byteRule (now (bytes .entry)) k ⌝ }
 {
     let at = RULE_BYTES * k;
     if bytes.len() < at + RULE_BYTES {

@@ -19,7 +19,7 @@ use Rattle.overloads.specs.Call.{answered, survivorsOf}
 use Rattle.lists.specs.declared.list.ChosenAnswer.the-variants as call
 use Rattle.overloads.specs.declared.call.Survivors.the-variants as survivors
 use Rattle.scalars.specs.declared.refusal.Refusal.{Refusal}
-use Rattle.overloads.specs.Demand2.{passes, Demand2}
+use Rattle.overloads.specs.Demand2.{takesAll, Demand2}
 use Rattle.functions.specs.Functions.{listingOf}
 use Rattle.functions.proofs.Database.{one-length}
 use Rattle.overloads.proofs.Choices.{resolve-says}
@@ -104,7 +104,7 @@ module _ (switch : Bool) (rules : List Signature) (ts : List ℕ) (one : OneLeng
   -- accepted, they are the entries that take every operand and pass the switch, in order, and the call chooses the first; refused, the
   -- call is refused alike
   pub survivors-are : (m : ℕ) → survivorsOf switch rules ts ≡ survivors.Members m
-      → (select (number 0 rules) m ≡ keep (passes switch ts) (number 0 rules)) × (resolve switch rules ts ≡ first (select (number 0 rules) m))
+      → (select (number 0 rules) m ≡ keep (takesAll switch ts) (number 0 rules)) × (resolve switch rules ts ≡ first (select (number 0 rules) m))
   survivors-are m e =
       let h = survivors-members switch rules ts m e in
       (h .members, h .choice ∙ sym (ap first (h .members)))

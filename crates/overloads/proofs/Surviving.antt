@@ -23,14 +23,14 @@ use Rattle.scalars.proofs.Meets.{select-ones}
 use Rattle.lists.proofs.Entries.{number-length, select-keep}
 use Rattle.overloads.proofs.Firsts.{keep-keep}
 use Rattle.overloads.proofs.Narrowing.{Narrows, narrow-narrows, Some}
-use Rattle.overloads.specs.Demand2.{takesFrom, permits, passes}
+use Rattle.overloads.specs.Demand2.{takesFrom, permits, takesAll}
 use Rattle.overloads.proofs.Choices.{concrete-keeps}
 use Rattle.overloads.proofs.ListResolving.{mask-entries}
 
 module _ (switch : Bool) (rules : List Signature) (ts : List ℕ) where
   -- the entries that take every operand and pass the switch
   abbrev pub surviving : List Entry
-  surviving = keep (passes switch ts) (number 0 rules)
+  surviving = keep (takesAll switch ts) (number 0 rules)
 
   -- a mask that picks them, and the choice among them
   pub record Survive (m : ℕ) : Type 0 where
@@ -41,18 +41,18 @@ module _ (switch : Bool) (rules : List Signature) (ts : List ℕ) where
 
   -- the mask of those that pass
   abbrev mask : ℕ
-  mask = sift (passes switch ts) rules (2 ^ length rules - 1)
+  mask = sift (takesAll switch ts) rules (2 ^ length rules - 1)
 
   mask-picks : select (number 0 rules) mask ≡ surviving
   mask-picks =
       let n = number-length 0 rules in
-      select-keep (passes switch ts) 0 rules (2 ^ length rules - 1)
-      ∙ ap (keep (passes switch ts)) (select-ones (number 0 rules) (length rules) (omega arith) ∙ take-all (length rules) (number 0 rules) (omega arith))
+      select-keep (takesAll switch ts) 0 rules (2 ^ length rules - 1)
+      ∙ ap (keep (takesAll switch ts)) (select-ones (number 0 rules) (length rules) (omega arith) ∙ take-all (length rules) (number 0 rules) (omega arith))
 
   mask-is : maskOf (map (λ (x : Entry). x .index) surviving) ≡ mask
   mask-is =
       ap (λ (s : List Entry). maskOf (map (λ (x : Entry). x .index) s)) (sym mask-picks)
-      ∙ mask-entries rules mask (sift-lt (passes switch ts) rules (2 ^ length rules - 1) refl)
+      ∙ mask-entries rules mask (sift-lt (takesAll switch ts) rules (2 ^ length rules - 1) refl)
 
   left-is : (s : List Entry) → s ≡ keep (takesFrom 0 ts) (number 0 rules) → concreteStep switch s ≡ surviving
   left-is s e =
@@ -80,7 +80,7 @@ module _ (switch : Bool) (rules : List Signature) (ts : List ℕ) where
       go false c f =
           let h = after-members m (narrow ts 0 (number 0 rules)) (narrow-narrows ts 0 (number 0 rules)) f in
           record {
-            within = subst (λ (n : ℕ). n < 2 ^ length rules) (sym (h .0)) (sift-lt (passes switch ts) rules (2 ^ length rules - 1) refl);
+            within = subst (λ (n : ℕ). n < 2 ^ length rules) (sym (h .0)) (sift-lt (takesAll switch ts) rules (2 ^ length rules - 1) refl);
             members = ap (select (number 0 rules)) (h .0) ∙ mask-picks;
             some = h .1;
             choice = ap (λ (b : Bool). choose b wrongCount (afterOperands switch (narrow ts 0 (number 0 rules)))) c ∙ h .2;

@@ -32,8 +32,8 @@ permits false r = true
 permits true r = concrete r
 
 -- all the steps as one test
-abbrev pub passes : Bool → List ℕ → Signature → Bool
-passes switch ts r = both (takesFrom 0 ts r) (permits switch r)
+abbrev pub takesAll : Bool → List ℕ → Signature → Bool
+takesAll switch ts r = both (takesFrom 0 ts r) (permits switch r)
 
 pub record Demand2 (switch : Bool) (rules : List Signature) (ts : List ℕ) : Type 0 where
   -- a choice is made exactly when what it says is so
@@ -43,7 +43,7 @@ pub record Demand2 (switch : Bool) (rules : List Signature) (ts : List ℕ) : Ty
   pub accepted : (i : ℕ) (r : Signature) → resolve switch rules ts ≡ chosen i r → Taken switch rules ts
   pub accepts : Taken switch rules ts → (i : ℕ) × (r : Signature) × (resolve switch rules ts ≡ chosen i r)
   -- the survivors are the listing filtered by every operand and the switch, in order, and the first of them is chosen
-  pub survive : (m : ℕ) → survivorsOf switch rules ts ≡ survivors.Members m → select (number 0 rules) m ≡ keep (passes switch ts) (number 0 rules)
+  pub survive : (m : ℕ) → survivorsOf switch rules ts ≡ survivors.Members m → select (number 0 rules) m ≡ keep (takesAll switch ts) (number 0 rules)
   pub preferred : (m : ℕ) → survivorsOf switch rules ts ≡ survivors.Members m → resolve switch rules ts ≡ first (select (number 0 rules) m)
   -- where there are none, the call is refused for the same reason
   pub refused : (why : Refusal) → survivorsOf switch rules ts ≡ survivors.Refused why → answered (resolve switch rules ts) ≡ call.Refused why

@@ -22,7 +22,7 @@ use Rattle.worksheet.specs.Answer.{enoughBytes}
 use Rattle.worksheet.specs.Places.{inside, behind, starts}
 use Rattle.worksheet.specs.Typer.{Typed, typed, refused, Operands, operands, refusedAmong, before, conclude, concludeCall, typeOf, typeAll}
 use Rattle.worksheet.specs.Sheet.{Wrote}
-use Rattle.worksheet.specs.Stack.{typesOn, startsOn, Full, Pushed}
+use Rattle.worksheet.specs.Stack.{typesOn, startsOn, Counted, Pushed}
 use Rattle.worksheet.specs.SecondPass.{Went, CallThere, CallClaim, CallTyped, NodeThere, NodeClaim, NodeTyped, ArgsThere, ArgsClaim, ArgsTyped}
 use Rattle.expressions.proofs.Bytes.{after, leaf-there, call-there, bytes-least}
 use Rattle.machine.proofs.LineBytes.{encode-append}
@@ -135,7 +135,7 @@ module _ (b : List ℕ) (at : ℕ) (s : Stack) (h : Sheet) where
                 (inner es (n .tail) (sym (there .number)) (there .arguments) (k .1)) (sized-all switch es (inside at) (k .1))
 
         -- what is concluded of the operands
-        concluded : (f : ℕ) (es : Trees) (ts : List ℕ) (ls : List Line) (r : Progress) → Full s
+        concluded : (f : ℕ) (es : Trees) (ts : List ℕ) (ls : List Line) (r : Progress) → Counted s
             → Went (inside at + length (bytesOfAll es)) ts (starts es (inside at)) ls s h i
             → (c : Choice) → CallClaim at (i .at) (typesOn s) (startsOn s) (i .sheet) r (conclude f at (starts es (inside at)) ts [] c)
             → NodeClaim (call f es) at s h r (conclude f at (starts es (inside at)) ts ls c)

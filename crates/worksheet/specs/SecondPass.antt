@@ -31,7 +31,7 @@ use Rattle.worksheet.specs.Answer.{enoughBytes}
 use Rattle.worksheet.specs.Places.{behind, starts}
 use Rattle.worksheet.specs.Typer.{Typed, typed, refused, Operands, operands, refusedAmong, conclude, typeOf, typeAll}
 use Rattle.worksheet.specs.Sheet.{Wrote, written, roomFor, placed}
-use Rattle.worksheet.specs.Stack.{typesOn, startsOn, Full, Pushed}
+use Rattle.worksheet.specs.Stack.{typesOn, startsOn, Counted, Pushed}
 
 -- a wrong count (5) stands at the call's tag, an operand that no rule takes (6) at its first byte, and an empty set (1) at the
 -- call's tag again; the first operand's offset is at the index `from`
@@ -87,7 +87,7 @@ pub record NodeThere (b : List ℕ) (at : ℕ) (s : Stack) (h : Sheet) : Type 0 
   pub tail : List ℕ
   pub text : drop at b ≡ bytesOf tree ++ tail
   pub known : Known functionCount tree
-  pub full : Full s
+  pub full : Counted s
   pub stack-room : s .top + nodes tree ≤ mostOperands
   pub sheet-room : h .len + 8 * nodes tree ≤ enoughBytes + 4
 
@@ -107,7 +107,7 @@ pub record ArgsThere (b : List ℕ) (at left : ℕ) (s : Stack) (h : Sheet) : Ty
   pub many : count trees ≡ left
   pub text : drop at b ≡ bytesOfAll trees ++ tail
   pub known : KnownAll functionCount trees
-  pub full : Full s
+  pub full : Counted s
   pub stack-room : s .top + nodesAll trees < mostOperands
   pub sheet-room : h .len + 8 * nodesAll trees + 4 ≤ enoughBytes
 

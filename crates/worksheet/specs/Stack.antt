@@ -13,7 +13,7 @@ abbrev pub startsOn : Stack → List ℕ
 startsOn s = take (s .top) (s .starts)
 
 -- there are as many of both as the stack counts
-pub record Full (s : Stack) : Type 0 where
+pub record Counted (s : Stack) : Type 0 where
   pub types-full : length (typesOn s) ≡ s .top
   pub starts-full : length (startsOn s) ≡ s .top
 

@@ -1,7 +1,7 @@
--- `rule_in` meets its contract: its test is the one that `ruleIn` makes, and where it holds all six bytes are there.
+-- `rule_in` meets its contract: its test is the one that `byteRule` makes, and where it holds all six bytes are there.
 -- Assumes nothing.
 use borrow.Author.Tests.{le-leb, lt-leb}
-use Rattle.handmade.specs.Sets.{ruleIn}
+use Rattle.handmade.specs.Sets.{byteRule}
 use borrow.Author.Needs.{needs}
 use Rattle.handmade.proofs.list_parts.rule_in.Statement.{statement}
 use Rattle.handmade.proofs.list_parts.rule_in.Tie as tie
@@ -13,7 +13,7 @@ add-if1 : tie.Need-add-if1
 add-if1 c = search needs
 
 returns : tie.Need-returns
-unfolding ruleIn
+unfolding byteRule
 returns c = rw (lt-leb _ _ (c .if1 .taken))
 
 shared-slice-read-t8 : tie.Need-shared-slice-read-t8
@@ -50,7 +50,7 @@ shared-slice-read-t21 : tie.Need-shared-slice-read-t21
 shared-slice-read-t21 c = search needs
 
 returns-2 : tie.Need-returns-2
-unfolding ruleIn
+unfolding byteRule
 returns-2 c = rw (le-leb _ _ (c .before .before .before .before .before .before .if1 .left))
 
 pub rule-in-spec : {M : Type 1} → statement M

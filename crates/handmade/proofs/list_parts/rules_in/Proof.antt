@@ -6,13 +6,13 @@ use native.Mathlib.Omega.{arith}
 use lib.ListN.{length, drop, length-set}
 use lib.Seq.{sets}
 use Rattle.scalars.proofs.Fills.{fill-step, fill-end}
-use Rattle.handmade.specs.Sets.{rulesIn}
+use Rattle.handmade.specs.Sets.{byteRules}
 use Rattle.handmade.proofs.ByteRules.{rules-next, rules-past, rules-filled}
 use Rattle.handmade.proofs.list_parts.rules_in.Statement.{statement}
 use Rattle.handmade.proofs.list_parts.rules_in.Tie as tie
 
 abbrev Inv-loop : tie.InvT-loop
-Inv-loop bytes out₀ k₀ out k = (k ≤ 63) × (length out ≡ 63) × (sets out k (drop k (rulesIn bytes)) ≡ rulesIn bytes)
+Inv-loop bytes out₀ k₀ out k = (k ≤ 63) × (length out ≡ 63) × (sets out k (drop k (byteRules bytes)) ≡ byteRules bytes)
 
 abbrev μ-loop : tie.MeasureT-loop
 μ-loop bytes out₀ k₀ out k = 63 - k
