@@ -2,9 +2,13 @@
  * expressions.
  *
  * Link target/staticlib/libbindings.a, which `rt staticlib bindings` writes (x86-64). The library uses no heap, keeps
- * nothing between calls and writes nothing but the buffer lent to azwukran_type, so any thread may call it at any time.
- * No argument is an error to the library: whatever it cannot answer it refuses by number. A byte slice passes as a
- * pointer and then its length; the pointer must be good for so many bytes, and may be any but null where that is 0.
+ * nothing between calls and writes nothing but the bytes lent to it as `out`, so any thread may call it at any time.
+ * No argument is an error to the library: whatever it cannot answer it refuses by number.
+ *
+ * Lent memory
+ *
+ * A byte slice passes as a pointer and then its length. The pointer must be good for so many bytes. It may be any but null
+ * where the length is 0, and is never null. The bytes lent as `out` overlap none of those that the same call reads.
  *
  * Numbers
  *
@@ -19,11 +23,18 @@
  *
  * A function's full listing is its rules in naga's order; an index counts in it from 0.
  *
- * Packing
+ * Answers
  *
- * Every answer is one 64-bit number. But for azwukran_survivors, azwukran_run and the two steps of a List, its lowest byte
- * is the refusal number, 0 where the question was accepted. Places of 32 bits are saturated: 2^32-1 stands for itself and
- * all beyond.
+ * Every function answers a structure by value. Its `number` is the refusal, 0 where the question was accepted, and its
+ * `place` says where, 0 where the question was accepted. On a refusal the other fields are 255, but for a Regular set, which
+ * is then the empty one, and the bytes of `out` keep theirs. Fields said to be kept free are always 255; a later version
+ * of the library may use them.
+ *
+ * Masks
+ *
+ * A mask of rules is bytes, low byte first: bit i of the first byte for rule i, bit i of the second for rule 8 + i, and so
+ * on. A mask of n rules takes (n + 7) / 8 bytes. Where the library writes one to `out`, less room is refused by 10, with the
+ * bytes needed as its place, last of all; bytes behind the mask keep theirs.
  */
 #ifndef AZWUKRAN_H
 #define AZWUKRAN_H
@@ -55,12 +66,12 @@ enum azwukran_number {
      * consensus, or for a set; 1 + index for a type or a component; 1 for the index of a rule; in an expression, the offset
      * of the byte. */
     AZWUKRAN_UNKNOWN = 7,
-    /* An expression is cut short, has an unknown tag, or has bytes left over; or a List's last rule is cut short. Place: the
-     * offset. */
+    /* An expression is cut short, has an unknown tag, or has bytes left over; or a List's last rule is cut short, or its
+     * mask. Place: the offset. */
     AZWUKRAN_MALFORMED = 8,
     /* An expression has a 65th node or a node at depth 17. Place: that node's offset. */
     AZWUKRAN_TOO_LARGE = 9,
-    /* The worksheet is longer than the lent buffer. Place: the bytes needed. */
+    /* A worksheet or a mask is longer than the bytes lent for it. Place: the bytes needed. */
     AZWUKRAN_ROOM = 10,
     /* A consensus over no components, and no base. Place: 0. */
     AZWUKRAN_NOTHING = 11,
@@ -70,47 +81,97 @@ enum azwukran_number {
     AZWUKRAN_OUTSIDE = 13
 };
 
-/* The byte of an answer that starts at bit 8 x which. */
-static inline uint8_t azwukran_byte(uint64_t answer, unsigned which) {
-    return (uint8_t)(answer >> (8 * which));
-}
+/* A chosen rule. */
+typedef struct azwukran_chosen_answer {
+    uint8_t number;
+    uint8_t index;        /* Its index: in the function's full listing, or among the rules handed in. */
+    uint8_t arguments[4]; /* The argument types, 255 where it has none. */
+    uint8_t count;        /* The number of arguments. */
+    uint8_t result;
+    uint8_t mark; /* Kept free for: constant or measured. */
+    size_t place;
+} azwukran_chosen_answer;
 
-/* The upper 32 bits of an answer: its place, or the line where a worksheet stopped. */
-static inline uint32_t azwukran_place(uint64_t answer) {
-    return (uint32_t)(answer >> 32);
-}
+/* A rule. */
+typedef struct azwukran_rule_answer {
+    uint8_t number;
+    uint8_t arguments[4];
+    uint8_t count;
+    uint8_t result;
+    size_t place;
+} azwukran_rule_answer;
+
+/* A Regular set, by its parts. */
+typedef struct azwukran_regular_answer {
+    uint8_t number;
+    uint8_t arity;
+    uint16_t constructors;
+    uint16_t scalars;
+    uint8_t conclusion;
+    size_t place;
+} azwukran_regular_answer;
+
+/* The scalar of a consensus. */
+typedef struct azwukran_consensus_answer {
+    uint8_t number;
+    uint8_t scalar;
+    uint8_t giver;    /* Kept free for: the base or a component gave the scalar. */
+    size_t component; /* Kept free for: which component. */
+    size_t place;
+} azwukran_consensus_answer;
+
+/* The type of an expression. */
+typedef struct azwukran_type_answer {
+    uint8_t number;
+    uint8_t type;
+    uint8_t mark; /* Kept free for: constant or measured. */
+    size_t place;
+} azwukran_type_answer;
+
+/* How a worksheet ran. */
+typedef struct azwukran_run_answer {
+    uint8_t number;  /* 0: to its end. AZWUKRAN_STOPPED: not. */
+    uint8_t top;     /* The type of the topmost operand, 255 where none is left. */
+    uint8_t mark;    /* Kept free for: the topmost operand is constant or measured. */
+    size_t operands; /* How many operands are left. */
+    size_t place;    /* The line where it stopped, counted from 0; 0 at the end. */
+} azwukran_run_answer;
+
+/* Whether a mask was written. */
+typedef struct azwukran_mask_answer {
+    uint8_t number;
+    size_t place;
+} azwukran_mask_answer;
+
+/* The number of a run that stopped. */
+enum { AZWUKRAN_STOPPED = 255 };
 
 /* Resolves a call: the rule that `function` prefers for operands of these types (0 to 180). concrete_only is 0 or 1; with
- * 1, rules with an abstract argument are dropped after the arguments.
- *   bits 0..7 number; 8..15 the rule's index in the full listing; 16..23 its result; 24..31 its number of arguments;
- *   32..63 place. On a refusal (7, 5, 6, 1, tested in this order) index, result and count are 255. */
-uint64_t azwukran_call(uint8_t function, const uint8_t *operands, size_t n, uint8_t concrete_only);
+ * 1, rules with an abstract argument are dropped after the arguments. Refusals, tested in this order: 7, 5, 6, 1. */
+azwukran_chosen_answer azwukran_call(uint8_t function, const uint8_t *operands, size_t n, uint8_t concrete_only);
 
-/* The rules that survive the same call, as a mask: bit i for index i of the full listing; 0 where the call is refused. */
-uint64_t azwukran_survivors(uint8_t function, const uint8_t *operands, size_t n, uint8_t concrete_only);
+/* The rules that survive the same call, as a mask over the function's full listing, written to the front of `out`, which has
+ * `room` bytes. Refused as the call is, then 10 for room. No function has more than 63 rules, so 8 bytes suffice. */
+azwukran_mask_answer azwukran_survivors(uint8_t function, const uint8_t *operands, size_t n, uint8_t concrete_only,
+                                        uint8_t *out, size_t room);
 
-/* One rule of a function's full listing.
- *   bytes from the lowest: number, argument types 0 to 3 (255 where the rule has none), number of arguments, result, place.
- *   Refusal 7 at place 0 for an unknown function, at place 1 for an unknown index; then the other bytes are 255. */
-uint64_t azwukran_rule(uint8_t function, uint8_t index);
+/* One rule of a function's full listing. Refusal 7 at place 0 for an unknown function, at place 1 for an unknown index. */
+azwukran_rule_answer azwukran_rule(uint8_t function, uint8_t index);
 
-/* The scalar on which components of these types (0 to 180) agree, from a base scalar (0 to 11) or none (255).
- *   bits 0..7 number; 8..15 the scalar, 255 on a refusal (7, 11, 12, tested in this order); 32..63 place. */
-uint64_t azwukran_consensus(uint8_t base, const uint8_t *components, size_t n);
+/* The scalar on which components of these types (0 to 180) agree, from a base scalar (0 to 11) or none (255). Refusals,
+ * tested in this order: 7, 11, 12. */
+azwukran_consensus_answer azwukran_consensus(uint8_t base, const uint8_t *components, size_t n);
 
 /* Types an expression of n bytes and writes its worksheet to the front of `out`, which has `room` bytes; 508 always suffice.
  * An expression is in prefix form: a leaf is 0, type (0 to 156); a call is 1, function, number of arguments, and then its
  * arguments. concrete_only (0 or 1) concerns every call. A worksheet is lines of four bytes: 0, type, 0, 0 pushes a leaf;
- * 2, depth from the top, type, 0 converts an operand; 1, function, index, number of arguments calls.
- *   bits 0..7 number; 8..15 the type, 255 on a refusal (8, 9, 7 in the order of the bytes, then 5, 6, 1 call by call, then
- *   10); 32..63 place. On a refusal the buffer keeps its contents, and so do the bytes behind an accepted worksheet. To learn
- *   a worksheet's length, ask with room 0: an expression that is right but for that is refused by 10, with the length. */
-uint64_t azwukran_type(const uint8_t *bytes, size_t n, uint8_t concrete_only, uint8_t *out, size_t room);
+ * 2, depth from the top, type, 0 converts an operand; 1, function, index, number of arguments calls. Refusals: 8, 9, 7 in the
+ * order of the bytes, then 5, 6, 1 call by call, then 10. Bytes behind an accepted worksheet keep theirs. To learn a
+ * worksheet's length, ask with room 0: an expression that is right but for that is refused by 10, with the length. */
+azwukran_type_answer azwukran_type(const uint8_t *bytes, size_t n, uint8_t concrete_only, uint8_t *out, size_t room);
 
-/* Runs a worksheet of n bytes on the strict machine, which stops at the first line that is not exactly right.
- *   bits 0..7: 0 ended, 1 stopped; 8..15 the number of operands left, 255 if stopped; 16..23 the type of the top one, 255 if
- *   there is none or if stopped; 32..63 the line it stopped at, counted from 0, and 0 if ended. */
-uint64_t azwukran_run(const uint8_t *sheet, size_t n);
+/* Runs a worksheet of n bytes on the strict machine, which stops at the first line that is not exactly right. */
+azwukran_run_answer azwukran_run(const uint8_t *sheet, size_t n);
 
 /* Sets made by hand
  *
@@ -121,39 +182,41 @@ uint64_t azwukran_run(const uint8_t *sheet, size_t n);
  * unknown bit or conclusion (7), then an arity above 4 (3), both at place 0.
  *
  * A List is handed in as its rules, six bytes each (argument types 0 to 3, number of arguments, result; an argument that the
- * rule has not may be any byte), the most preferred first, and the mask of its members: bit i for rule i. Every question
- * refuses a last rule cut short (8), then an unknown type, or a member that is no rule (7), then more than 63 rules, or a
- * rule of more than 4 arguments (3). Arguments are 0 to 155, results 0 to 180; of more than 63 rules the first 63 are
- * tested for this. */
+ * rule has not may be any byte), the most preferred first, and the mask of its members; n and m are the numbers of bytes of
+ * the two. Bytes of the mask beyond those that the rules need are not read. Every question refuses a last rule cut short (8,
+ * at its offset), then a mask cut short (8, at m), then an unknown type, or a member that is no rule (7), then more than 63
+ * rules, or a rule of more than 4 arguments (3), these at place 0. Arguments are 0 to 155, results 0 to 180; of more than 63
+ * rules the first 63 are tested for this. */
 
-/* The set that an argument of this type (0 to 180; another is refused by 7) at this index leaves. The conclusion stays.
- *   bits 0..7 number; 8..15 arity; 32..47 constructors; 48..63 scalars. On a refusal all but the number is 0. An index at or
- *   above the arity leaves the empty set, all 0. */
-uint64_t azwukran_regular_arg(uint8_t arity, uint16_t constructors, uint16_t scalars, uint8_t conclusion, size_t index,
-                              uint8_t type);
+/* The set that an argument of this type (0 to 180; another is refused by 7) at this index leaves. An index at or above the
+ * arity leaves the empty set, all 0. */
+azwukran_regular_answer azwukran_regular_arg(uint8_t arity, uint16_t constructors, uint16_t scalars, uint8_t conclusion,
+                                             size_t index, uint8_t type);
 
-/* The set without ABSTRACT_INT and ABSTRACT_FLOAT, packed in the same way. */
-uint64_t azwukran_regular_concrete_only(uint8_t arity, uint16_t constructors, uint16_t scalars, uint8_t conclusion);
+/* The set without ABSTRACT_INT and ABSTRACT_FLOAT. */
+azwukran_regular_answer azwukran_regular_concrete_only(uint8_t arity, uint16_t constructors, uint16_t scalars,
+                                                       uint8_t conclusion);
 
-/* The rule that the set prefers, packed as azwukran_rule packs it. Refusals, besides the set's own: 1 if it has no rule, 2 if
- * it has several constructors, 13 if the rule has no conclusion. */
-uint64_t azwukran_regular_preferred(uint8_t arity, uint16_t constructors, uint16_t scalars, uint8_t conclusion);
+/* The rule that the set prefers. Refusals, besides the set's own: 1 if it has no rule, 2 if it has several constructors, 13 if
+ * the rule has no conclusion. */
+azwukran_rule_answer azwukran_regular_preferred(uint8_t arity, uint16_t constructors, uint16_t scalars, uint8_t conclusion);
 
-/* The rule at an index of the set's listing, packed as azwukran_rule packs it. Refusals, besides the set's own: 13 if some
- * rule has no conclusion, then 7 at place 1 for an unknown index. */
-uint64_t azwukran_regular_rule(uint8_t arity, uint16_t constructors, uint16_t scalars, uint8_t conclusion, uint8_t index);
+/* The rule at an index of the set's listing. Refusals, besides the set's own: 13 if some rule has no conclusion, then 7 at
+ * place 1 for an unknown index. */
+azwukran_rule_answer azwukran_regular_rule(uint8_t arity, uint16_t constructors, uint16_t scalars, uint8_t conclusion,
+                                           uint8_t index);
 
-/* The members that an argument of this type (0 to 180; another is refused by 7) at this index leaves, as a mask. A refusal
- * has bit 63 set, which no mask has, and its number in bits 0..7. Its place is not told: it is 0, but for 8, where it is
- * the offset of the rule cut short. */
-uint64_t azwukran_list_arg(const uint8_t *rules, size_t n, uint64_t members, size_t index, uint8_t type);
+/* The members that an argument of this type (0 to 180; another is refused by 7) at this index leaves, as a mask written to
+ * the front of `out`, which has `room` bytes: (n / 6 + 7) / 8 are needed. */
+azwukran_mask_answer azwukran_list_arg(const uint8_t *rules, size_t n, const uint8_t *members, size_t m, size_t index,
+                                       uint8_t type, uint8_t *out, size_t room);
 
 /* The members without an argument of ABSTRACT_INT or ABSTRACT_FLOAT, in the same form. */
-uint64_t azwukran_list_concrete_only(const uint8_t *rules, size_t n, uint64_t members);
+azwukran_mask_answer azwukran_list_concrete_only(const uint8_t *rules, size_t n, const uint8_t *members, size_t m,
+                                                 uint8_t *out, size_t room);
 
-/* The first member, packed as azwukran_call packs it, its index counted in the rules handed in. Refusals, besides the List's
- * own: 1 if it has no member. */
-uint64_t azwukran_list_preferred(const uint8_t *rules, size_t n, uint64_t members);
+/* The first member, its index counted in the rules handed in. Refusals, besides the List's own: 1 if it has no member. */
+azwukran_chosen_answer azwukran_list_preferred(const uint8_t *rules, size_t n, const uint8_t *members, size_t m);
 
 #ifdef __cplusplus
 }

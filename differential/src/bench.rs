@@ -12,7 +12,7 @@ use crate::expressions::{self, ENOUGH_ROOM};
 use crate::generate::{self, Accepted, Generator};
 use crate::machine::LINE;
 use crate::numbering::{self, FUNCTIONS, NONE, OPAQUE, SCALAR_COUNT};
-use crate::ours::{self, Regular};
+use crate::ours::{self, List, Regular, LENT};
 use crate::random::Random;
 
 const INPUTS: usize = 20_000;
@@ -90,7 +90,7 @@ fn bench_regular_steps(rules: &Crate, seed: u64) {
             black_box(rules.hand_step(hand, *index, *code));
         },
         |(set, _, index, code)| {
-            let _ = black_box(set.arg(*index, *code));
+            black_box(set.arg(*index, *code));
         },
     );
 }
@@ -106,13 +106,13 @@ fn bench_list_steps(rules: &Crate, seed: u64) {
             (function, bytes, Hand::list(listed.iter().map(RuleCodes::rule).collect()))
         })
         .collect();
-    let inputs: Vec<(&[u8], u64, &Hand, usize, u8)> = (0..INPUTS)
+    let inputs: Vec<(&[u8], [u8; 8], &Hand, usize, u8)> = (0..INPUTS)
         .map(|_| {
             let (function, bytes, hand) = random.pick(&lists);
             let listed = rules.listing(*function);
             let index = random.below(rules.arity(*function));
             let code = random.pick(listed).arguments[index];
-            (bytes.as_slice(), (1u64 << listed.len()) - 1, hand, index, code)
+            (bytes.as_slice(), ((1u64 << listed.len()) - 1).to_le_bytes(), hand, index, code)
         })
         .collect();
     time(
@@ -122,7 +122,7 @@ fn bench_list_steps(rules: &Crate, seed: u64) {
             black_box(rules.hand_step(hand, *index, *code));
         },
         |(bytes, members, _, index, code)| {
-            let _ = black_box(ours::list_arg(bytes, *members, *index, *code));
+            black_box(List { rules: bytes, members }.arg(*index, *code, LENT));
         },
     );
 }

@@ -127,7 +127,7 @@ impl Calls<'_> {
 fn check_call(tally: &mut Tally, function: u8, operands: &[u8], concrete_only: bool, expected: Outcome) {
     let answered = Outcome {
         call: ours::call(function, operands, concrete_only),
-        survivors: ours::survivors(function, operands, concrete_only),
+        survivors: ours::survivors(function, operands, concrete_only, ours::LENT),
     };
     tally.check(expected, answered, || {
         let name = FUNCTIONS.get(usize::from(function)).map_or("unknown".to_string(), |known| format!("{known:?}"));
@@ -153,6 +153,32 @@ pub fn next_tuple(operands: &mut [u8]) -> bool {
 
 pub fn any_code(random: &mut Random) -> u8 {
     random.below(usize::from(LAST_CODE) + 1) as u8
+}
+
+/// Survivors with less room than their mask takes: refused by 10, after the call's own refusals.
+pub fn compare_room(rules: &Crate, accepted: &[Accepted]) -> u64 {
+    let mut tally = Tally::new("survivors without room");
+    for call in accepted {
+        let needed = ours::mask_bytes(rules.listing(call.function).len());
+        for concrete_only in [false, true] {
+            let expected = rules.call(call.function, &call.operands, concrete_only).survivors;
+            for room in 0..=ours::LENT {
+                let expected = if room < needed && expected.answer.number == 0 {
+                    ours::Masked::refused(10, needed)
+                } else {
+                    expected
+                };
+                let answered = ours::survivors(call.function, &call.operands, concrete_only, room);
+                tally.check(expected, answered, || {
+                    format!(
+                        "function {}, operands {:?}, concrete-only {concrete_only}, room {room}",
+                        call.function, call.operands
+                    )
+                });
+            }
+        }
+    }
+    tally.sum_up(&format!("each accepted call, both switches, room 0 to {}", ours::LENT))
 }
 
 /// Calls of unknown functions, with unknown types, and of very many operands: what is tested before the count.

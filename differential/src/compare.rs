@@ -3,7 +3,7 @@
 
 use std::panic::{self, AssertUnwindSafe};
 
-use crate::calls::{any_code, compare_calls, compare_unknown, next_tuple};
+use crate::calls::{any_code, compare_calls, compare_room, compare_unknown, next_tuple};
 use crate::crate_side::{Asker, Crate};
 use crate::expressions::{self, ENOUGH_ROOM};
 use crate::generate::{self, Generator};
@@ -64,6 +64,7 @@ pub fn compare(seed: u64, quick: bool) -> bool {
         compare_rules(&rules),
         compare_calls(&rules, &accepted, &effort, seed),
         compare_unknown(&rules, &accepted),
+        compare_room(&rules, &accepted),
         compare_sets(&rules, effort.sets, seed),
         rules.with_consensus(|asker| compare_consensus(asker, &effort, seed)),
         compare_expressions(&rules, &effort, seed),
@@ -190,7 +191,7 @@ fn compare_expressions(rules: &Crate, effort: &Effort, seed: u64) -> u64 {
                 check_typing(&mut tally, &bytes, concrete_only, room, fill, (typed, sheet));
             }
             if answer.0.number == 0 {
-                let ended = Run { state: 0, operands: 1, top: answer.0.type_code, line: 0 };
+                let ended = Run::ended(1, answer.0.type_code);
                 let runs = (machine::run(rules, &answer.1), ours::run(&answer.1));
                 tally.check((ended, ended), runs, || format!("the worksheet {:?} of {bytes:?}", answer.1));
             }
@@ -253,7 +254,7 @@ fn compare_worksheets(rules: &Crate, effort: &Effort, seed: u64) -> u64 {
             _ => generator.raw(),
         };
         let expected = machine::run(rules, &sheet);
-        if expected.state == 0 {
+        if expected.number == 0 {
             ended += 1;
         } else {
             stopped += 1;

@@ -55,16 +55,16 @@ pub enum Refusal {
     Empty,
 }
 
-/// A call's answer and the mask of its surviving rules.
+/// A call's answer, and that to the question which rules survive it.
 #[derive(Clone, Copy, Debug, PartialEq, Eq)]
 pub struct Outcome {
     pub call: ours::Call,
-    pub survivors: u64,
+    pub survivors: ours::Masked,
 }
 
 impl Outcome {
     pub fn refused(number: u8, place: usize) -> Outcome {
-        Outcome { call: ours::Call::refused(number, place), survivors: 0 }
+        Outcome { call: ours::Call::refused(number, place), survivors: ours::Masked::refused(number, place) }
     }
 }
 
@@ -179,8 +179,8 @@ impl Crate {
     fn accepted<S: OverloadSet>(&self, function: u8, set: &S) -> Outcome {
         let index = self.index(function, &set.most_preferred());
         let rule = &self.listing(function)[index as usize];
-        let call = ours::Call { number: 0, index, result: rule.result, count: rule.arguments.len() as u8, place: 0 };
-        Outcome { call, survivors: self.survivors(function, set) }
+        let survivors = ours::Masked::of(self.survivors(function, set), self.listing(function).len());
+        Outcome { call: ours::Call::chosen(index, rule.answer()), survivors }
     }
 
     /// The first index in the function's full listing that holds this rule. Rules that are listed twice are alike in
@@ -212,7 +212,7 @@ impl Crate {
         let known = usize::from(function) < FUNCTIONS.len();
         match self.listing(function).get(index as usize) {
             Some(rule) => rule.answer(),
-            None => ours::Rule::refused(7, u8::from(known)),
+            None => ours::Rule::refused(7, usize::from(known)),
         }
     }
 
@@ -277,7 +277,7 @@ impl Asker<'_> {
         }
         let base = (base != NONE).then(|| numbering::scalar(base));
         match self.ask(base, &self.expressions(components)) {
-            Ok(scalar) => ours::Consensus { number: 0, scalar: numbering::scalar_number(scalar), place: 0 },
+            Ok(scalar) => ours::Consensus::agreed(numbering::scalar_number(scalar)),
             Err(component) => ours::Consensus::refused(12, component),
         }
     }

@@ -36,7 +36,7 @@ pub fn type_expression(rules: &Crate, bytes: &[u8], concrete_only: bool) -> (Typ
     let typed = read(bytes).and_then(|nodes| {
         let mut work = Work { rules, concrete_only, nodes: nodes.iter(), sheet: Vec::with_capacity(ENOUGH_ROOM) };
         let (_, type_code) = work.next_node()?;
-        Ok((Typed { number: 0, type_code, place: 0 }, work.sheet))
+        Ok((Typed::accepted(type_code), work.sheet))
     });
     typed.unwrap_or_else(|refusal| (refusal, Vec::new()))
 }

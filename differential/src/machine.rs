@@ -4,7 +4,7 @@
 
 use crate::crate_side::{Crate, RuleCodes};
 use crate::numbering::{LAST_LEAF, NONE, OPAQUE, SCALAR_COUNT};
-use crate::ours::{saturated, Run};
+use crate::ours::Run;
 
 /// The bytes of a line.
 pub const LINE: usize = 4;
@@ -17,10 +17,10 @@ pub fn run(rules: &Crate, sheet: &[u8]) -> Run {
     let mut stack = Vec::new();
     for (line, bytes) in sheet.chunks(LINE).enumerate() {
         if obey(rules, bytes, &mut stack).is_none() {
-            return Run { state: 1, operands: NONE, top: NONE, line: saturated(line) };
+            return Run::stopped(line);
         }
     }
-    Run { state: 0, operands: stack.len() as u8, top: stack.last().copied().unwrap_or(NONE), line: 0 }
+    Run::ended(stack.len(), stack.last().copied().unwrap_or(NONE))
 }
 
 /// Obeys one line, or stops.

@@ -1,16 +1,26 @@
-//! Azwukran's side: the C functions of libbindings.a behind safe functions, each with its answer unpacked into a
-//! record. The other side gives its answers as the same records, so that comparing is `==`.
+//! Azwukran's side: the C functions of libbindings.a behind safe functions. An answer is the structure that the library
+//! answers by value, field for field as in include/azwukran.h; the other side gives its answers as the same structures, so
+//! that comparing is `==`, over the fields that are kept free, too.
 
 use crate::numbering::NONE;
 
 mod linked {
+    use super::{Call, Consensus, Mask, RegularAnswer, Rule, Run, Typed};
+
     extern "C" {
-        pub fn azwukran_call(function: u8, operands: *const u8, n: usize, concrete_only: u8) -> u64;
-        pub fn azwukran_survivors(function: u8, operands: *const u8, n: usize, concrete_only: u8) -> u64;
-        pub fn azwukran_rule(function: u8, index: u8) -> u64;
-        pub fn azwukran_consensus(base: u8, components: *const u8, n: usize) -> u64;
-        pub fn azwukran_type(bytes: *const u8, n: usize, concrete_only: u8, out: *mut u8, room: usize) -> u64;
-        pub fn azwukran_run(sheet: *const u8, n: usize) -> u64;
+        pub fn azwukran_call(function: u8, operands: *const u8, n: usize, concrete_only: u8) -> Call;
+        pub fn azwukran_survivors(
+            function: u8,
+            operands: *const u8,
+            n: usize,
+            concrete_only: u8,
+            out: *mut u8,
+            room: usize,
+        ) -> Mask;
+        pub fn azwukran_rule(function: u8, index: u8) -> Rule;
+        pub fn azwukran_consensus(base: u8, components: *const u8, n: usize) -> Consensus;
+        pub fn azwukran_type(bytes: *const u8, n: usize, concrete_only: u8, out: *mut u8, room: usize) -> Typed;
+        pub fn azwukran_run(sheet: *const u8, n: usize) -> Run;
         pub fn azwukran_regular_arg(
             arity: u8,
             constructors: u16,
@@ -18,141 +28,252 @@ mod linked {
             conclusion: u8,
             index: usize,
             code: u8,
-        ) -> u64;
-        pub fn azwukran_regular_concrete_only(arity: u8, constructors: u16, scalars: u16, conclusion: u8) -> u64;
-        pub fn azwukran_regular_preferred(arity: u8, constructors: u16, scalars: u16, conclusion: u8) -> u64;
-        pub fn azwukran_regular_rule(arity: u8, constructors: u16, scalars: u16, conclusion: u8, index: u8) -> u64;
-        pub fn azwukran_list_arg(rules: *const u8, n: usize, members: u64, index: usize, code: u8) -> u64;
-        pub fn azwukran_list_concrete_only(rules: *const u8, n: usize, members: u64) -> u64;
-        pub fn azwukran_list_preferred(rules: *const u8, n: usize, members: u64) -> u64;
+        ) -> RegularAnswer;
+        pub fn azwukran_regular_concrete_only(
+            arity: u8,
+            constructors: u16,
+            scalars: u16,
+            conclusion: u8,
+        ) -> RegularAnswer;
+        pub fn azwukran_regular_preferred(arity: u8, constructors: u16, scalars: u16, conclusion: u8) -> Rule;
+        pub fn azwukran_regular_rule(arity: u8, constructors: u16, scalars: u16, conclusion: u8, index: u8) -> Rule;
+        pub fn azwukran_list_arg(
+            rules: *const u8,
+            n: usize,
+            members: *const u8,
+            m: usize,
+            index: usize,
+            code: u8,
+            out: *mut u8,
+            room: usize,
+        ) -> Mask;
+        pub fn azwukran_list_concrete_only(
+            rules: *const u8,
+            n: usize,
+            members: *const u8,
+            m: usize,
+            out: *mut u8,
+            room: usize,
+        ) -> Mask;
+        pub fn azwukran_list_preferred(rules: *const u8, n: usize, members: *const u8, m: usize) -> Call;
     }
 }
 
-/// A call's answer: refusal number (0: accepted), index in the function's full listing, result type, number of
-/// arguments, place.
+/// A call's answer: refusal number (0: accepted), the rule with its index in the function's full listing, place. The same
+/// for the preferred rule of a List. The mark is kept free.
+#[repr(C)]
 #[derive(Clone, Copy, Debug, PartialEq, Eq)]
 pub struct Call {
     pub number: u8,
     pub index: u8,
-    pub result: u8,
+    pub arguments: [u8; 4],
     pub count: u8,
-    pub place: u32,
+    pub result: u8,
+    pub mark: u8,
+    pub place: usize,
 }
 
 impl Call {
     pub fn refused(number: u8, place: usize) -> Call {
-        Call { number, index: NONE, result: NONE, count: NONE, place: saturated(place) }
+        Call { number, index: NONE, arguments: [NONE; 4], count: NONE, result: NONE, mark: NONE, place }
+    }
+
+    /// A rule at an index.
+    pub fn chosen(index: u8, rule: Rule) -> Call {
+        let Rule { arguments, count, result, .. } = rule;
+        Call { number: 0, index, arguments, count, result, mark: NONE, place: 0 }
     }
 }
 
-/// One rule of a function's full listing; arguments that it lacks are 255.
+/// One rule of a listing; arguments that it lacks are 255.
+#[repr(C)]
 #[derive(Clone, Copy, Debug, PartialEq, Eq)]
 pub struct Rule {
     pub number: u8,
     pub arguments: [u8; 4],
     pub count: u8,
     pub result: u8,
-    pub place: u8,
+    pub place: usize,
 }
 
 impl Rule {
-    pub fn refused(number: u8, place: u8) -> Rule {
+    pub fn refused(number: u8, place: usize) -> Rule {
         Rule { number, arguments: [NONE; 4], count: NONE, result: NONE, place }
     }
 }
 
-/// A consensus: refusal number, scalar, place.
+/// A consensus. Who gave the scalar is kept free.
+#[repr(C)]
 #[derive(Clone, Copy, Debug, PartialEq, Eq)]
 pub struct Consensus {
     pub number: u8,
     pub scalar: u8,
-    pub place: u32,
+    pub giver: u8,
+    pub component: usize,
+    pub place: usize,
 }
 
 impl Consensus {
     pub fn refused(number: u8, place: usize) -> Consensus {
-        Consensus { number, scalar: NONE, place: saturated(place) }
+        Consensus { number, place, ..Consensus::agreed(NONE) }
+    }
+
+    pub fn agreed(scalar: u8) -> Consensus {
+        Consensus { number: 0, scalar, giver: NONE, component: NONE.into(), place: 0 }
     }
 }
 
-/// A typed expression: refusal number, type, place. The worksheet is beside it.
+/// A typed expression; the worksheet is beside it, and the mark is kept free.
+#[repr(C)]
 #[derive(Clone, Copy, Debug, PartialEq, Eq)]
 pub struct Typed {
     pub number: u8,
     pub type_code: u8,
-    pub place: u32,
+    pub mark: u8,
+    pub place: usize,
 }
 
 impl Typed {
     pub fn refused(number: u8, place: usize) -> Typed {
-        Typed { number, type_code: NONE, place: saturated(place) }
+        Typed { number, type_code: NONE, mark: NONE, place }
+    }
+
+    pub fn accepted(type_code: u8) -> Typed {
+        Typed { number: 0, type_code, mark: NONE, place: 0 }
     }
 }
 
-/// How a worksheet ran. State 0: to its end, with so many operands and the top's type (255 where there is none).
-/// State 1: stopped at a line, counted from 0; then the number of operands and the top are 255.
+/// How a worksheet ran. Number 0: to its end, with so many operands and the top's type (255 where there is none). Number
+/// 255: stopped at a line, counted from 0, which is the place. The mark is kept free.
+#[repr(C)]
 #[derive(Clone, Copy, Debug, PartialEq, Eq)]
 pub struct Run {
-    pub state: u8,
-    pub operands: u8,
+    pub number: u8,
     pub top: u8,
-    pub line: u32,
+    pub mark: u8,
+    pub operands: usize,
+    pub place: usize,
 }
 
-/// A place in the 32 bits that an answer has for it.
-pub fn saturated(place: usize) -> u32 {
-    u32::try_from(place).unwrap_or(u32::MAX)
+impl Run {
+    pub fn ended(operands: usize, top: u8) -> Run {
+        Run { number: 0, top, mark: NONE, operands, place: 0 }
+    }
+
+    pub fn stopped(line: usize) -> Run {
+        Run { number: NONE, top: NONE, mark: NONE, operands: NONE.into(), place: line }
+    }
+}
+
+/// Whether a mask was written.
+#[repr(C)]
+#[derive(Clone, Copy, Debug, PartialEq, Eq)]
+pub struct Mask {
+    pub number: u8,
+    pub place: usize,
+}
+
+/// A Regular set that is answered.
+#[repr(C)]
+#[derive(Clone, Copy, Debug, PartialEq, Eq)]
+pub struct RegularAnswer {
+    pub number: u8,
+    pub arity: u8,
+    pub constructors: u16,
+    pub scalars: u16,
+    pub conclusion: u8,
+    pub place: usize,
+}
+
+impl RegularAnswer {
+    /// A refusal answers the empty set.
+    pub fn refused(number: u8, place: usize) -> RegularAnswer {
+        RegularAnswer { number, arity: 0, constructors: 0, scalars: 0, conclusion: 0, place }
+    }
+}
+
+/// How many bytes are lent for a mask, some more than any mask here needs.
+pub const LENT: usize = 12;
+
+/// What stands in lent bytes before a question.
+const FILL: u8 = 0xa5;
+
+/// The bytes that a mask of so many rules takes.
+pub fn mask_bytes(rules: usize) -> usize {
+    rules.div_ceil(8)
+}
+
+/// The answer to a question for a mask, with all the lent bytes afterwards.
+#[derive(Clone, Copy, Debug, PartialEq, Eq)]
+pub struct Masked {
+    pub answer: Mask,
+    pub lent: [u8; LENT],
+}
+
+impl Masked {
+    /// On a refusal the lent bytes keep theirs.
+    pub fn refused(number: u8, place: usize) -> Masked {
+        Masked { answer: Mask { number, place }, lent: [FILL; LENT] }
+    }
+
+    /// A mask over so many rules stands in front, low byte first, and the bytes behind it keep theirs.
+    pub fn of(mask: u64, rules: usize) -> Masked {
+        let mut masked = Masked::refused(0, 0);
+        let needed = mask_bytes(rules);
+        masked.lent[..needed].copy_from_slice(&mask.to_le_bytes()[..needed]);
+        masked
+    }
+
+    /// Asks with so many of the bytes lent.
+    fn asked(room: usize, ask: impl FnOnce(&mut [u8]) -> Mask) -> Masked {
+        let mut lent = [FILL; LENT];
+        let answer = ask(&mut lent[..room]);
+        Masked { answer, lent }
+    }
 }
 
 pub fn call(function: u8, operands: &[u8], concrete_only: bool) -> Call {
     // Safety: pointer and length are one slice's, which the function only reads.
-    call_of(unsafe { linked::azwukran_call(function, operands.as_ptr(), operands.len(), u8::from(concrete_only)) })
+    unsafe { linked::azwukran_call(function, operands.as_ptr(), operands.len(), u8::from(concrete_only)) }
 }
 
-fn call_of(answer: u64) -> Call {
-    let [number, index, result, count, ..] = answer.to_le_bytes();
-    Call { number, index, result, count, place: high(answer) }
-}
-
-/// Bit i is set where rule i of the function's full listing survives.
-pub fn survivors(function: u8, operands: &[u8], concrete_only: bool) -> u64 {
-    // Safety: as for `call`.
-    unsafe { linked::azwukran_survivors(function, operands.as_ptr(), operands.len(), u8::from(concrete_only)) }
+/// The mask of the rules of the function's full listing that survive.
+pub fn survivors(function: u8, operands: &[u8], concrete_only: bool, room: usize) -> Masked {
+    Masked::asked(room, |out| {
+        // Safety: two slices with their lengths, the second borrowed to be written.
+        unsafe {
+            linked::azwukran_survivors(
+                function,
+                operands.as_ptr(),
+                operands.len(),
+                u8::from(concrete_only),
+                out.as_mut_ptr(),
+                out.len(),
+            )
+        }
+    })
 }
 
 pub fn rule(function: u8, index: u8) -> Rule {
-    // Safety: two numbers go in, a number comes out.
-    rule_of(unsafe { linked::azwukran_rule(function, index) })
-}
-
-fn rule_of(answer: u64) -> Rule {
-    let [number, a0, a1, a2, a3, count, result, place] = answer.to_le_bytes();
-    Rule { number, arguments: [a0, a1, a2, a3], count, result, place }
+    // Safety: two numbers go in, numbers come out.
+    unsafe { linked::azwukran_rule(function, index) }
 }
 
 /// A base of 255 is none.
 pub fn consensus(base: u8, components: &[u8]) -> Consensus {
     // Safety: as for `call`.
-    let answer = unsafe { linked::azwukran_consensus(base, components.as_ptr(), components.len()) };
-    let [number, scalar, ..] = answer.to_le_bytes();
-    Consensus { number, scalar, place: high(answer) }
+    unsafe { linked::azwukran_consensus(base, components.as_ptr(), components.len()) }
 }
 
 /// Writes the worksheet to the front of `out`, all of which is lent.
 pub fn type_expression(bytes: &[u8], concrete_only: bool, out: &mut [u8]) -> Typed {
-    // Safety: two slices with their lengths, the second borrowed to be written.
-    let answer = unsafe {
-        linked::azwukran_type(bytes.as_ptr(), bytes.len(), u8::from(concrete_only), out.as_mut_ptr(), out.len())
-    };
-    let [number, type_code, ..] = answer.to_le_bytes();
-    Typed { number, type_code, place: high(answer) }
+    // Safety: as for `survivors`.
+    unsafe { linked::azwukran_type(bytes.as_ptr(), bytes.len(), u8::from(concrete_only), out.as_mut_ptr(), out.len()) }
 }
 
 pub fn run(sheet: &[u8]) -> Run {
     // Safety: as for `call`.
-    let answer = unsafe { linked::azwukran_run(sheet.as_ptr(), sheet.len()) };
-    let [state, operands, top, ..] = answer.to_le_bytes();
-    Run { state, operands, top, line: high(answer) }
+    unsafe { linked::azwukran_run(sheet.as_ptr(), sheet.len()) }
 }
 
 /// A Regular set made by hand, by its parts.
@@ -165,68 +286,83 @@ pub struct Regular {
 }
 
 impl Regular {
-    /// The set that an argument leaves, with the same conclusion, or a refusal's number.
-    pub fn arg(self, index: usize, code: u8) -> Result<Regular, u8> {
-        // Safety: numbers go in, a number comes out; so in all four.
-        self.left(unsafe {
-            linked::azwukran_regular_arg(self.arity, self.constructors, self.scalars, self.conclusion, index, code)
-        })
+    /// The set as it is answered.
+    pub fn answer(self) -> RegularAnswer {
+        let Regular { arity, constructors, scalars, conclusion } = self;
+        RegularAnswer { number: 0, arity, constructors, scalars, conclusion, place: 0 }
     }
 
-    pub fn concrete_only(self) -> Result<Regular, u8> {
-        self.left(unsafe {
-            linked::azwukran_regular_concrete_only(self.arity, self.constructors, self.scalars, self.conclusion)
-        })
+    /// The set that an argument leaves.
+    pub fn arg(self, index: usize, code: u8) -> RegularAnswer {
+        // Safety: numbers go in, numbers come out; so in all four.
+        unsafe {
+            linked::azwukran_regular_arg(self.arity, self.constructors, self.scalars, self.conclusion, index, code)
+        }
+    }
+
+    pub fn concrete_only(self) -> RegularAnswer {
+        unsafe { linked::azwukran_regular_concrete_only(self.arity, self.constructors, self.scalars, self.conclusion) }
     }
 
     pub fn preferred(self) -> Rule {
-        rule_of(unsafe {
-            linked::azwukran_regular_preferred(self.arity, self.constructors, self.scalars, self.conclusion)
-        })
+        unsafe { linked::azwukran_regular_preferred(self.arity, self.constructors, self.scalars, self.conclusion) }
     }
 
     /// One rule of the set's listing.
     pub fn rule(self, index: u8) -> Rule {
-        rule_of(unsafe {
-            linked::azwukran_regular_rule(self.arity, self.constructors, self.scalars, self.conclusion, index)
+        unsafe { linked::azwukran_regular_rule(self.arity, self.constructors, self.scalars, self.conclusion, index) }
+    }
+}
+
+/// A List made by hand: six bytes a rule, and the mask of its members, low byte first.
+#[derive(Clone, Copy, Debug)]
+pub struct List<'a> {
+    pub rules: &'a [u8],
+    pub members: &'a [u8],
+}
+
+impl List<'_> {
+    /// The members that an argument leaves.
+    pub fn arg(self, index: usize, code: u8, room: usize) -> Masked {
+        Masked::asked(room, |out| {
+            // Safety: three slices with their lengths, the last borrowed to be written; so in the next.
+            unsafe {
+                linked::azwukran_list_arg(
+                    self.rules.as_ptr(),
+                    self.rules.len(),
+                    self.members.as_ptr(),
+                    self.members.len(),
+                    index,
+                    code,
+                    out.as_mut_ptr(),
+                    out.len(),
+                )
+            }
         })
     }
 
-    fn left(self, answer: u64) -> Result<Regular, u8> {
-        let [number, arity, _, _, c0, c1, s0, s1] = answer.to_le_bytes();
-        let constructors = u16::from_le_bytes([c0, c1]);
-        let scalars = u16::from_le_bytes([s0, s1]);
-        if number == 0 {
-            Ok(Regular { arity, constructors, scalars, conclusion: self.conclusion })
-        } else {
-            assert_eq!((arity, constructors, scalars), (0, 0, 0), "a refusal answers the empty set");
-            Err(number)
+    pub fn concrete_only(self, room: usize) -> Masked {
+        Masked::asked(room, |out| unsafe {
+            linked::azwukran_list_concrete_only(
+                self.rules.as_ptr(),
+                self.rules.len(),
+                self.members.as_ptr(),
+                self.members.len(),
+                out.as_mut_ptr(),
+                out.len(),
+            )
+        })
+    }
+
+    pub fn preferred(self) -> Call {
+        // Safety: two slices with their lengths, which are only read.
+        unsafe {
+            linked::azwukran_list_preferred(
+                self.rules.as_ptr(),
+                self.rules.len(),
+                self.members.as_ptr(),
+                self.members.len(),
+            )
         }
     }
-}
-
-/// A List's members that an argument leaves, or a refusal's number. The rules are six bytes each.
-pub fn list_arg(rules: &[u8], members: u64, index: usize, code: u8) -> Result<u64, u8> {
-    // Safety: as for `call`; so in all three.
-    members_of(unsafe { linked::azwukran_list_arg(rules.as_ptr(), rules.len(), members, index, code) })
-}
-
-pub fn list_concrete_only(rules: &[u8], members: u64) -> Result<u64, u8> {
-    members_of(unsafe { linked::azwukran_list_concrete_only(rules.as_ptr(), rules.len(), members) })
-}
-
-pub fn list_preferred(rules: &[u8], members: u64) -> Call {
-    call_of(unsafe { linked::azwukran_list_preferred(rules.as_ptr(), rules.len(), members) })
-}
-
-fn members_of(answer: u64) -> Result<u64, u8> {
-    if answer >> 63 == 0 {
-        Ok(answer)
-    } else {
-        Err(u8::try_from(answer & !(1 << 63)).expect("a refusal's number is a byte"))
-    }
-}
-
-fn high(answer: u64) -> u32 {
-    (answer >> 32) as u32
 }

@@ -2,10 +2,10 @@
 //! was worked out by hand from its rules. Both sides must give them, so the other side of the comparison is held to the
 //! document, too.
 
-use crate::crate_side::{Asker, Crate, Outcome};
+use crate::crate_side::{Asker, Crate, Outcome, RuleCodes};
 use crate::expressions;
 use crate::numbering::NONE;
-use crate::ours::{self, Call, Consensus, Typed};
+use crate::ours::{self, Call, Consensus, Masked, Typed, LENT};
 
 /// A question, the document's answer, and those of the crate's side and ours, all in the same words.
 pub struct Reading {
@@ -23,23 +23,24 @@ pub fn readings(rules: &Crate) -> Vec<Reading> {
 }
 
 fn calls(rules: &Crate) -> Vec<Reading> {
-    let accepted = |index: u8, result: u8, count: u8, survivors: u64| Outcome {
-        call: Call { number: 0, index, result, count, place: 0 },
-        survivors,
+    // The rule's index, arguments and result; the survivors, among so many rules.
+    let accepted = |index: u8, arguments: &[u8], result: u8, survivors: u64, rules: usize| Outcome {
+        call: Call::chosen(index, RuleCodes { arguments: arguments.to_vec(), result }.answer()),
+        survivors: Masked::of(survivors, rules),
     };
     let table: [(&str, u8, &[u8], Outcome); 8] = [
-        ("Clamp", 4, &[0, 5, 0], accepted(5, 5, 3, 1 << 5)),
+        ("Clamp", 4, &[0, 5, 0], accepted(5, &[5, 5, 5], 5, 1 << 5, 44)),
         ("Sin", 5, &[5], Outcome::refused(6, 1)),
-        ("Sin", 5, &[0], accepted(0, 1, 1, 0b1111)),
-        ("Distance", 66, &[0, 0], accepted(0, 8, 2, 0b111)),
+        ("Sin", 5, &[0], accepted(0, &[1], 1, 0b1111, 16)),
+        ("Distance", 66, &[0, 0], accepted(0, &[8, 8], 8, 0b111, 12)),
         ("Pow", 32, &[8, 9], Outcome::refused(6, 2)),
-        ("Mix", 72, &[8, 8, 8], accepted(8, 8, 3, 1 << 8 | 1 << 9)),
-        ("Mix", 72, &[20, 20, 8], accepted(11, 20, 3, 1 << 11)),
-        ("Transpose", 74, &[61], accepted(4, 85, 1, 0b1111 << 4)),
+        ("Mix", 72, &[8, 8, 8], accepted(8, &[8, 8, 8], 8, 1 << 8 | 1 << 9, 32)),
+        ("Mix", 72, &[20, 20, 8], accepted(11, &[20, 20, 8], 20, 1 << 11, 32)),
+        ("Transpose", 74, &[61], accepted(4, &[61], 85, 0b1111 << 4, 36)),
     ];
     let ask = |(name, function, operands, printed): (&str, u8, &[u8], Outcome)| {
         let call = ours::call(function, operands, false);
-        let survivors = ours::survivors(function, operands, false);
+        let survivors = ours::survivors(function, operands, false, LENT);
         Reading {
             question: format!("{name}{operands:?}"),
             printed: format!("{printed:?}"),
@@ -53,7 +54,7 @@ fn calls(rules: &Crate) -> Vec<Reading> {
 fn consensus(asker: &Asker) -> Vec<Reading> {
     let table: [(u8, &[u8], Consensus); 3] = [
         (NONE, &[0, 5, 1], Consensus::refused(12, 2)),
-        (NONE, &[0, 8, 1], Consensus { number: 0, scalar: 8, place: 0 }),
+        (NONE, &[0, 8, 1], Consensus::agreed(8)),
         (1, &[2], Consensus::refused(12, 0)),
     ];
     let ask = |(base, components, printed): (u8, &[u8], Consensus)| Reading {
@@ -66,27 +67,26 @@ fn consensus(asker: &Asker) -> Vec<Reading> {
 }
 
 fn typing(rules: &Crate) -> Vec<Reading> {
-    let accepted = |type_code: u8| Typed { number: 0, type_code, place: 0 };
     let clamp = vec![1, 4, 3, 0, 0, 0, 5, 0, 0];
     let clamp_sheet = vec![0, 0, 0, 0, 0, 5, 0, 0, 0, 0, 0, 0, 2, 2, 5, 0, 2, 0, 5, 0, 1, 4, 5, 3];
     let room = expressions::ENOUGH_ROOM;
     let printed = |bytes, room, typed, sheet| Expression { bytes, room, typed, sheet };
     let table = [
         printed(vec![], room, Typed::refused(8, 0), None),
-        printed(vec![0, 156], room, accepted(156), Some(vec![0, 156, 0, 0])),
+        printed(vec![0, 156], room, Typed::accepted(156), Some(vec![0, 156, 0, 0])),
         printed(vec![0, 157], room, Typed::refused(7, 1), None),
-        printed(clamp.clone(), room, accepted(5), Some(clamp_sheet.clone())),
-        printed(clamp.clone(), 24, accepted(5), Some(clamp_sheet)),
+        printed(clamp.clone(), room, Typed::accepted(5), Some(clamp_sheet.clone())),
+        printed(clamp.clone(), 24, Typed::accepted(5), Some(clamp_sheet)),
         printed(clamp, 23, Typed::refused(10, 24), None),
         // Pow(Distance(1, 1), 9): Distance has already answered F32.
         printed(vec![1, 32, 2, 1, 66, 2, 0, 1, 0, 1, 0, 9], room, Typed::refused(6, 10), None),
-        printed(vec![1, 78, 4, 0, 2, 0, 2, 0, 5, 0, 5], room, accepted(2), None),
+        printed(vec![1, 78, 4, 0, 2, 0, 2, 0, 5, 0, 5], room, Typed::accepted(2), None),
         printed(vec![1, 79, 0], room, Typed::refused(7, 1), None),
-        printed(chain(16), room, accepted(8), None),
+        printed(chain(16), room, Typed::accepted(8), None),
         printed(chain(17), room, Typed::refused(9, 48), None),
-        printed(tree(1), room, accepted(8), None),
+        printed(tree(1), room, Typed::accepted(8), None),
         printed(tree(2), room, Typed::refused(9, 161), None),
-        printed(tree(1), 256, accepted(8), None),
+        printed(tree(1), 256, Typed::accepted(8), None),
         printed(tree(1), 255, Typed::refused(10, 256), None),
     ];
     table.into_iter().map(|expression| expression.ask(rules)).collect()

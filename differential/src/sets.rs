@@ -6,7 +6,7 @@ use naga::proc::overloads_oracle::Hand;
 use crate::calls::any_code;
 use crate::crate_side::{rule_codes, Crate, RuleCodes};
 use crate::numbering::{LAST_CODE, OPAQUE, SCALAR_COUNT};
-use crate::ours::{self, Regular};
+use crate::ours::{self, mask_bytes, Call, List, Masked, Regular, RegularAnswer, LENT};
 use crate::random::Random;
 use crate::tally::{grouped, Tally};
 
@@ -110,15 +110,15 @@ fn compare_regular(rules: &Crate, tally: &mut Tally, random: &mut Random) {
         let told = || format!("{ours:?} and {step:?}");
         hand = match step {
             Step::Argument(_, code) if code > LAST_CODE => {
-                tally.check(Err(7), left, told);
+                tally.check(RegularAnswer::refused(7, 0), left, told);
                 continue;
             }
             Step::Argument(index, code) => rules.hand_step(&hand, index, code),
             Step::ConcreteOnly => rules.hand_concrete(hand),
         };
-        let (arity, constructors, scalars, _) = hand.parts().expect("a step leaves a set of its kind");
-        let expected = Regular { arity: arity as u8, constructors, scalars, conclusion: ours.conclusion };
-        tally.check(Ok(expected), left, told);
+        let (arity, constructors, scalars, conclusion) = hand.parts().expect("a step leaves a set of its kind");
+        let expected = Regular { arity: arity as u8, constructors, scalars, conclusion };
+        tally.check(expected.answer(), left, told);
         ours = expected;
         compare_regular_questions(rules, tally, ours, &hand);
     }
@@ -126,8 +126,8 @@ fn compare_regular(rules: &Crate, tally: &mut Tally, random: &mut Random) {
 
 fn compare_refused_regular(tally: &mut Tally, set: Regular, number: u8) {
     let told = || format!("{set:?}");
-    tally.check(Err(number), set.arg(0, 8), told);
-    tally.check(Err(number), set.concrete_only(), told);
+    tally.check(RegularAnswer::refused(number, 0), set.arg(0, 8), told);
+    tally.check(RegularAnswer::refused(number, 0), set.concrete_only(), told);
     tally.check(ours::Rule::refused(number, 0), set.preferred(), told);
     tally.check(ours::Rule::refused(number, 0), set.rule(0), told);
 }
@@ -157,11 +157,17 @@ fn compare_regular_questions(rules: &Crate, tally: &mut Tally, set: Regular, han
     }
 }
 
-/// A List in bytes, and what document 01 makes of them: the rules, or the refusal.
+/// A List in bytes, and what document 01 makes of them: the rules, or the refusal's number and place.
 struct ByteList {
     bytes: Vec<u8>,
-    members: u64,
-    rules: Result<Vec<RuleCodes>, u8>,
+    members: Vec<u8>,
+    rules: Result<Vec<RuleCodes>, (u8, usize)>,
+}
+
+impl ByteList {
+    fn list(&self) -> List<'_> {
+        List { rules: &self.bytes, members: &self.members }
+    }
 }
 
 /// Rules over a few types, so that a step leaves some of them; seldom something that is no List.
@@ -192,63 +198,97 @@ fn any_list(random: &mut Random) -> ByteList {
         bytes.extend([count, rule.result]);
         rules.push(rule);
     }
-    let mut members = if length > MOST_RULES { 0 } else { (1u64 << length) - 1 };
-    if random.once_in(60) {
-        members |= 1 << random.below(64);
-    }
-    let foreign = length < 64 && members >> length != 0;
-    let mut cut = false;
+    let (members, mask) = any_members(random, length);
     if random.once_in(60) {
         bytes.truncate(bytes.len().saturating_sub(1 + random.below(5)));
-        cut = bytes.len() % RULE_BYTES != 0;
     }
-    let fault = if cut {
-        Some(8)
-    } else if unknown || foreign {
-        Some(7)
+    let fault = if bytes.len() % RULE_BYTES != 0 {
+        Some((8, bytes.len() / RULE_BYTES * RULE_BYTES))
+    } else if mask == AnyMask::Short {
+        Some((8, members.len()))
+    } else if unknown || mask == AnyMask::Foreign {
+        Some((7, 0))
     } else if long || length > MOST_RULES {
-        Some(3)
+        Some((3, 0))
     } else {
         None
     };
     ByteList { bytes, members, rules: fault.map_or(Ok(rules), Err) }
 }
 
+/// What a mask in bytes is: of all the rules, with a bit that is no rule's, or of too few bytes.
+#[derive(Clone, Copy, PartialEq, Eq)]
+enum AnyMask {
+    Full,
+    Foreign,
+    Short,
+}
+
+/// The mask of so many rules, often with bytes behind it that are not read; seldom something that is none.
+fn any_members(random: &mut Random, length: usize) -> (Vec<u8>, AnyMask) {
+    let needed = mask_bytes(length);
+    let mut members = vec![u8::MAX; needed];
+    let spare = needed * 8 - length;
+    if spare > 0 {
+        members[needed - 1] >>= spare;
+    }
+    if needed > 0 && random.once_in(60) {
+        members.truncate(random.below(needed));
+        return (members, AnyMask::Short);
+    }
+    let mut kind = AnyMask::Full;
+    if spare > 0 && random.once_in(60) {
+        members[needed - 1] |= 1 << (8 - spare + random.below(spare));
+        kind = AnyMask::Foreign;
+    }
+    for _ in 0..random.below(4) {
+        members.push(random.byte());
+    }
+    (members, kind)
+}
+
 fn compare_list(rules: &Crate, tally: &mut Tally, random: &mut Random) {
-    let list = any_list(random);
-    let told = || format!("the List {:?} with members {:#x}", list.bytes, list.members);
-    let listed = match &list.rules {
+    let mut list = any_list(random);
+    let listed = match list.rules.clone() {
         Ok(listed) => listed,
-        Err(number) => {
-            tally.check(Err(*number), ours::list_arg(&list.bytes, list.members, 0, 8), told);
-            tally.check(Err(*number), ours::list_concrete_only(&list.bytes, list.members), told);
-            tally.check(*number, ours::list_preferred(&list.bytes, list.members).number, told);
+        Err((number, place)) => {
+            let told = || format!("the List {:?} with members {:?}", list.bytes, list.members);
+            let room = random.below(LENT + 1);
+            tally.check(Masked::refused(number, place), list.list().arg(0, 8, room), told);
+            tally.check(Masked::refused(number, place), list.list().concrete_only(room), told);
+            tally.check(Call::refused(number, place), list.list().preferred(), told);
             return;
         }
     };
     let types: Vec<u8> = listed.iter().flat_map(|rule| rule.arguments.iter().copied()).collect();
     let mut hand = Hand::list(listed.iter().map(RuleCodes::rule).collect());
-    let mut members = list.members;
-    compare_list_preferred(tally, &list.bytes, members, listed, &hand);
+    let needed = mask_bytes(listed.len());
+    compare_list_preferred(tally, &list, &listed, &hand);
     for _ in 0..random.below(7) {
         let step = any_step(random, &types);
-        let left = match step {
-            Step::Argument(index, code) => ours::list_arg(&list.bytes, members, index, code),
-            Step::ConcreteOnly => ours::list_concrete_only(&list.bytes, members),
+        let ask = |room: usize| match step {
+            Step::Argument(index, code) => list.list().arg(index, code, room),
+            Step::ConcreteOnly => list.list().concrete_only(room),
         };
-        let told = || format!("the List {:?} with members {members:#x} and {step:?}", list.bytes);
+        let told = || format!("the List {:?} with members {:?} and {step:?}", list.bytes, list.members);
         hand = match step {
             Step::Argument(_, code) if code > LAST_CODE => {
-                tally.check(Err(7), left, told);
+                tally.check(Masked::refused(7, 0), ask(random.below(LENT + 1)), told);
                 continue;
             }
             Step::Argument(index, code) => rules.hand_step(&hand, index, code),
             Step::ConcreteOnly => rules.hand_concrete(hand),
         };
-        tally.check(Ok(rules.hand_listing(&hand)), left.map(|mask| chosen(listed, mask)), told);
-        let Ok(mask) = left else { return };
-        members = mask;
-        compare_list_preferred(tally, &list.bytes, members, listed, &hand);
+        if needed > 0 && random.once_in(4) {
+            tally.check(Masked::refused(10, needed), ask(random.below(needed)), told);
+        }
+        let left = ask(needed + random.below(LENT + 1 - needed));
+        let mask = left.lent[..needed].iter().rev().fold(0, |mask, &byte| mask << 8 | u64::from(byte));
+        // Which of two equal rules is left, the crate does not tell; all else is compared.
+        let expected = (Masked::of(mask, listed.len()), rules.hand_listing(&hand));
+        tally.check(expected, (left, chosen(&listed, mask)), told);
+        list.members = left.lent[..needed].to_vec();
+        compare_list_preferred(tally, &list, &listed, &hand);
     }
 }
 
@@ -258,15 +298,15 @@ fn chosen(listed: &[RuleCodes], mask: u64) -> Vec<RuleCodes> {
 }
 
 /// The preferred rule: its index is that of the first member.
-fn compare_list_preferred(tally: &mut Tally, bytes: &[u8], members: u64, listed: &[RuleCodes], hand: &Hand) {
-    let told = || format!("the preferred rule of the List {bytes:?} with members {members:#x}");
-    let answer = ours::list_preferred(bytes, members);
+fn compare_list_preferred(tally: &mut Tally, list: &ByteList, listed: &[RuleCodes], hand: &Hand) {
+    let told = || format!("the preferred rule of the List {:?} with members {:?}", list.bytes, list.members);
+    let answer = list.list().preferred();
     if hand.is_empty() {
-        tally.check(ours::Call::refused(1, 0), answer, told);
+        tally.check(Call::refused(1, 0), answer, told);
         return;
     }
     let rule = rule_codes(&hand.most_preferred());
-    let index = members.trailing_zeros() as u8;
-    let expected = ours::Call { number: 0, index, result: rule.result, count: rule.arguments.len() as u8, place: 0 };
+    let first = (0..listed.len()).find(|k| list.members[k / 8] >> (k % 8) & 1 == 1).expect("a member is left");
+    let expected = Call::chosen(first as u8, rule.answer());
     tally.check((expected, Some(&rule)), (answer, listed.get(usize::from(answer.index))), told);
 }

@@ -1,3 +1,3 @@
 -- What the proofs of several functions use.
-mod Answers
-mod Operands
+mod LentMasks
+mod RulesOf

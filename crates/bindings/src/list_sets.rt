@@ -1,59 +1,58 @@
-// Lists made by hand: a question hands the rules in as bytes, six a rule (four arguments, their count, the result), and the members as
-// a mask. A step answers the mask of those that are left, so a caller hands it in again for the next step.
+// Lists made by hand: a question hands the rules in as bytes, six a rule (four arguments, their count, the result), and the members as a
+// mask in bytes. A step writes the mask of those that are left into lent bytes, so a caller hands it in again for the next step.
 
 ghost use mathlib.Core.Path.{_≡_};
-ghost use Rattle.lists.specs.List.{listArg, listStep, listPreferred, refusedList};
-ghost use Rattle.lists.specs.ChosenPaper.{chosenPaper};
-ghost use Rattle.lists.specs.declared.list.ChosenAnswer.the-variants as chosen;
 ghost use Rattle.rules.specs.declared.rule.Keep.the-variants as keep;
-ghost use Rattle.packing.specs.Packing.{membersPacked, callPacked};
-ghost use Rattle.handmade.specs.Sets.{listFrom, onList};
-use handmade::list_from;
-use packing::NONE;
-use packing::pack_chosen;
-use packing::pack_members;
-use packing::pack_no_members;
-use packing::pack_refusal;
-use scalars::Verdict;
+ghost use Rattle.lists.specs.ChosenPaper.{noChoice};
+ghost use Rattle.lists.specs.List.{noListValues, listArg, listStep, listPreferred};
+ghost use Rattle.handmade.specs.Sets.{rulesHanded, ofList};
+ghost use Rattle.c_answers.specs.Answers.{chosenForC, maskForC};
+ghost use Rattle.bindings.specs.Lent.{membersLeft, inRoom, lentBy};
+use crate::lent::lend_members;
+use c_answers::ChosenForC;
+use c_answers::MaskForC;
+use c_answers::chosen_for_c;
+use handmade::list_arg;
+use handmade::list_concrete_only;
+use handmade::list_preferred;
 
-// The members that an argument of a type leaves, as a mask, or the refusal.
+// The bytes of a rule.
+const RULE_BYTES: usize = 6;
+
+// The members that an argument of a type leaves, as a mask in front of the lent bytes.
 #[no_mangle]
-pub extern "C" fn azwukran_list_arg(rules: &[u8], members: u64, index: usize, code: u8) -> u64
-    ensures { λ r. ⌜ r ≡ membersPacked (onList (listFrom (now (rules .entry)) members) (listArg index code) refusedList) ⌝ }
+pub extern "C" fn azwukran_list_arg(
+    rules: &[u8],
+    members: &[u8],
+    index: usize,
+    code: u8,
+    out: &mut [u8],
+) -> MaskForC
+    ensures answer { λ r. ⌜ r ≡ maskForC (inRoom (rulesHanded (now (rules .entry))) (now (out .entry)) (membersLeft (ofList (now (rules .entry)) (now (members .entry)) (listArg index code) noListValues))) ⌝ }
+    ensures lent { λ _. ⌜ now (out .exit) ≡ lentBy (rulesHanded (now (rules .entry))) (membersLeft (ofList (now (rules .entry)) (now (members .entry)) (listArg index code) noListValues)) (now (out .entry)) ⌝ }
 {
-    let made = list_from(rules, members);
-    let verdict = made.answer;
-    let list = made.list;
-    match verdict {
-        Verdict::Refused(why) => pack_no_members(why),
-        Verdict::Accepted => pack_members(list.arg(index, code)),
-    }
+    let left = list_arg(rules, members, index, code);
+    lend_members(left, rules.len() / RULE_BYTES, out)
 }
 
-// The members without an abstract argument, as a mask, or the refusal.
+// The members without an abstract argument, as a mask in front of the lent bytes.
 #[no_mangle]
-pub extern "C" fn azwukran_list_concrete_only(rules: &[u8], members: u64) -> u64
-    ensures { λ r. ⌜ r ≡ membersPacked (onList (listFrom (now (rules .entry)) members) (listStep keep.Concrete) refusedList) ⌝ }
+pub extern "C" fn azwukran_list_concrete_only(
+    rules: &[u8],
+    members: &[u8],
+    out: &mut [u8],
+) -> MaskForC
+    ensures answer { λ r. ⌜ r ≡ maskForC (inRoom (rulesHanded (now (rules .entry))) (now (out .entry)) (membersLeft (ofList (now (rules .entry)) (now (members .entry)) (listStep keep.Concrete) noListValues))) ⌝ }
+    ensures lent { λ _. ⌜ now (out .exit) ≡ lentBy (rulesHanded (now (rules .entry))) (membersLeft (ofList (now (rules .entry)) (now (members .entry)) (listStep keep.Concrete) noListValues)) (now (out .entry)) ⌝ }
 {
-    let made = list_from(rules, members);
-    let verdict = made.answer;
-    let list = made.list;
-    match verdict {
-        Verdict::Refused(why) => pack_no_members(why),
-        Verdict::Accepted => pack_members(list.concrete_only()),
-    }
+    let left = list_concrete_only(rules, members);
+    lend_members(left, rules.len() / RULE_BYTES, out)
 }
 
-// The first member: number, index, result, number of arguments, place.
+// The first member, with its index among the rules.
 #[no_mangle]
-pub extern "C" fn azwukran_list_preferred(rules: &[u8], members: u64) -> u64
-    ensures { λ r. ⌜ r ≡ callPacked (chosenPaper (onList (listFrom (now (rules .entry)) members) listPreferred chosen.Refused)) ⌝ }
+pub extern "C" fn azwukran_list_preferred(rules: &[u8], members: &[u8]) -> ChosenForC
+    ensures { λ r. ⌜ r ≡ chosenForC (ofList (now (rules .entry)) (now (members .entry)) listPreferred noChoice) ⌝ }
 {
-    let made = list_from(rules, members);
-    let verdict = made.answer;
-    let list = made.list;
-    match verdict {
-        Verdict::Refused(why) => pack_refusal(why, NONE, NONE, NONE),
-        Verdict::Accepted => pack_chosen(list.most_preferred()),
-    }
+    chosen_for_c(list_preferred(rules, members))
 }

@@ -1,23 +1,22 @@
-// Regular sets made by hand: a question hands the set in as its parts, arity, masks of constructors and of scalars, and conclusion.
-//
-// A step answers arity and masks, so a caller hands them in again for the next step. The conclusion stays the caller's.
+// Regular sets made by hand: a question hands the set in as its parts, arity, masks of constructors and of scalars, and conclusion. A step
+// answers them, so a caller hands them in again for the next step.
 
 ghost use mathlib.Core.Path.{_≡_};
-ghost use Rattle.regular.specs.Regular.{regularArg, regularConcrete, regularPreferred, regularListing};
-ghost use Rattle.rules.specs.RulePaper.{rulePaper};
-ghost use Rattle.regular.specs.SetPaper.{regularPaper};
-ghost use Rattle.regular.specs.declared.regular.RegularAnswer.the-variants as regular;
-ghost use Rattle.rules.specs.declared.rule.RuleAnswer.the-variants as rule;
-ghost use Rattle.packing.specs.Packing.{regularPacked, rulePacked};
-ghost use Rattle.handmade.specs.Sets.{regularFrom, onRegular, listedAt};
-use handmade::listed_at;
-use handmade::regular_from;
-use packing::pack_regular_answer;
-use packing::pack_rule_answer;
-use regular::RegularAnswer;
-use rules::RuleAnswer;
+ghost use Rattle.rules.specs.RulePaper.{noRule};
+ghost use Rattle.regular.specs.Regular.{regularArg, regularConcrete, regularPreferred};
+ghost use Rattle.regular.specs.SetPaper.{noSet};
+ghost use Rattle.handmade.specs.Sets.{ofRegular, regularRuleAt};
+ghost use Rattle.c_answers.specs.Answers.{ruleForC, regularForC};
+use c_answers::RegularForC;
+use c_answers::RuleForC;
+use c_answers::regular_for_c;
+use c_answers::rule_for_c;
+use handmade::regular_arg;
+use handmade::regular_concrete_only;
+use handmade::regular_preferred;
+use handmade::regular_rule;
 
-// The set that an argument of a type leaves: number, arity, masks.
+// The set that an argument of a type leaves.
 #[no_mangle]
 pub extern "C" fn azwukran_regular_arg(
     arity: u8,
@@ -26,48 +25,39 @@ pub extern "C" fn azwukran_regular_arg(
     conclusion: u8,
     index: usize,
     code: u8,
-) -> u64
-    ensures { λ r. ⌜ r ≡ regularPacked (regularPaper (onRegular (regularFrom arity constructors scalars conclusion) (regularArg index code) regular.Refused)) ⌝ }
+) -> RegularForC
+    ensures { λ r. ⌜ r ≡ regularForC (ofRegular arity constructors scalars conclusion (regularArg index code) noSet) ⌝ }
 {
-    match regular_from(arity, constructors, scalars, conclusion) {
-        RegularAnswer::Refused(why) => pack_regular_answer(RegularAnswer::Refused(why)),
-        RegularAnswer::Set(set) => pack_regular_answer(set.arg(index, code)),
-    }
+    regular_for_c(regular_arg(arity, constructors, scalars, conclusion, index, code))
 }
 
-// The set without its abstract scalars: number, arity, masks.
+// The set without its abstract scalars.
 #[no_mangle]
 pub extern "C" fn azwukran_regular_concrete_only(
     arity: u8,
     constructors: u16,
     scalars: u16,
     conclusion: u8,
-) -> u64
-    ensures { λ r. ⌜ r ≡ regularPacked (regularPaper (onRegular (regularFrom arity constructors scalars conclusion) regularConcrete regular.Refused)) ⌝ }
+) -> RegularForC
+    ensures { λ r. ⌜ r ≡ regularForC (ofRegular arity constructors scalars conclusion regularConcrete noSet) ⌝ }
 {
-    match regular_from(arity, constructors, scalars, conclusion) {
-        RegularAnswer::Refused(why) => pack_regular_answer(RegularAnswer::Refused(why)),
-        RegularAnswer::Set(set) => pack_regular_answer(set.concrete_only()),
-    }
+    regular_for_c(regular_concrete_only(arity, constructors, scalars, conclusion))
 }
 
-// The preferred rule: number, four arguments, their count, the result, place.
+// The preferred rule.
 #[no_mangle]
 pub extern "C" fn azwukran_regular_preferred(
     arity: u8,
     constructors: u16,
     scalars: u16,
     conclusion: u8,
-) -> u64
-    ensures { λ r. ⌜ r ≡ rulePacked (rulePaper (onRegular (regularFrom arity constructors scalars conclusion) regularPreferred rule.Refused)) ⌝ }
+) -> RuleForC
+    ensures { λ r. ⌜ r ≡ ruleForC (ofRegular arity constructors scalars conclusion regularPreferred noRule) ⌝ }
 {
-    match regular_from(arity, constructors, scalars, conclusion) {
-        RegularAnswer::Refused(why) => pack_rule_answer(RuleAnswer::Refused(why)),
-        RegularAnswer::Set(set) => pack_rule_answer(set.most_preferred()),
-    }
+    rule_for_c(regular_preferred(arity, constructors, scalars, conclusion))
 }
 
-// The rule at an index of the set's listing: number, four arguments, their count, the result, place.
+// The rule at an index of the set's listing.
 #[no_mangle]
 pub extern "C" fn azwukran_regular_rule(
     arity: u8,
@@ -75,11 +65,8 @@ pub extern "C" fn azwukran_regular_rule(
     scalars: u16,
     conclusion: u8,
     index: u8,
-) -> u64
-    ensures { λ r. ⌜ r ≡ rulePacked (rulePaper (onRegular (regularFrom arity constructors scalars conclusion) (λ set. listedAt index (regularListing set)) rule.Refused)) ⌝ }
+) -> RuleForC
+    ensures { λ r. ⌜ r ≡ ruleForC (ofRegular arity constructors scalars conclusion (regularRuleAt index) noRule) ⌝ }
 {
-    match regular_from(arity, constructors, scalars, conclusion) {
-        RegularAnswer::Refused(why) => pack_rule_answer(RuleAnswer::Refused(why)),
-        RegularAnswer::Set(set) => pack_rule_answer(listed_at(set, index)),
-    }
+    rule_for_c(regular_rule(arity, constructors, scalars, conclusion, index))
 }

@@ -1,4 +1,4 @@
--- The combination of two scalars: the table's rule, that a combination is a scalar or none, and a consensus one component further.
+-- Conversion by sets; and the combination of two scalars: the table's rule, that a combination is a scalar or none, and a consensus one component further.
 -- Assumes nothing.
 use mathlib.Core.Path.{_≡_, refl, sym, ap, ap₂, _∙_}
 use mathlib.Core.Bool.{Bool, true, false}
@@ -8,13 +8,20 @@ use native.Mathlib.Numerals.{add-one}
 use native.Mathlib.Omega.{arith}
 use lib.ListN.{length, getD, drop, drop-of-length-le}
 use borrow.Author.Tests.{lt-ltb, le-ltb, ne-eqb}
-use Rattle.scalars.specs.Mask.{choose}
+use Rattle.scalars.specs.Mask.{choose, digit}
 use Rattle.scalars.specs.Domain.{converts}
-use Rattle.domain.specs.Conversion.{combination, none, agree, agreeWithFirst}
-use Rattle.scalars.specs.declared.scalar_set.ScalarAnswer.the-variants.{Scalar, Refused}
-use Rattle.scalars.specs.declared.refusal.Refusal.the-variants.{NoConsensus, NothingToCombine}
+use Rattle.scalars.specs.Scalar.{member, convertibleFrom}
+use Rattle.domain.specs.Conversion.{convertsTo, combination, none, agree, agreeWithFirst}
+use Rattle.scalars.specs.Paper.{accepted, refusal}
+use Rattle.scalars.proofs.Scalars.{reached}
 use Rattle.scalars.proofs.Table.{tabulate, entry}
 use Rattle.domain.proofs.Codes.{from-here}
+
+-- whether a scalar converts, by its set
+pub converts-told : (a b m : ℕ) {x : Bool} → a < 12 → b < 12 → m ≡ convertibleFrom a → member b m ≡ x → convertsTo a b ≡ accepted (digit x ∷ [])
+unfolding convertsTo
+converts-told a b m h k e f =
+    simp (lt-ltb _ _ h, lt-ltb _ _ k) (ap (λ (y : Bool). accepted (digit y ∷ [])) (sym (reached a b h k) ∙ ap (member b) (sym e) ∙ f))
 
 -- the table of 144 entries, one for each ordered pair
 unfoldable pub table : List ℕ
@@ -23,7 +30,7 @@ table = tabulate (λ k. combination (k / 12) (k % 12)) 144 0
 pub table-rule : (a b : ℕ) → a < 12 → b < 12 → getD table (a * 12 + b) 0 ≡ combination a b
 unfolding table
 table-rule a b h k =
-    entry (λ k. combination (k / 12) (k % 12)) 144 (a * 12 + b) (omega arith)
+    entry 0 (λ k. combination (k / 12) (k % 12)) 144 (a * 12 + b) (omega arith)
     ∙ ap₂ combination (omega arith) (omega arith)
 
 -- of two known scalars, a known one or none
@@ -38,15 +45,15 @@ combination-known a b h k n = go (converts a b) (converts b a) n
 
 -- a consensus from an index on
 module _ (best : ℕ) (s : List ℕ) (i : ℕ) where
-  pub agree-end : length s ≤ i → Scalar (record { 0 = best }) ≡ agree best i (drop i s)
+  pub agree-end : length s ≤ i → accepted (best ∷ []) ≡ agree best i (drop i s)
   unfolding agree
   agree-end h = sym (ap (agree best i) (drop-of-length-le s h))
 
-  pub agree-without : i < length s → 156 ≤ getD s i 0 → Refused (NoConsensus i) ≡ agree best i (drop i s)
+  pub agree-without : i < length s → 156 ≤ getD s i 0 → refusal 12 i (255 ∷ []) ≡ agree best i (drop i s)
   unfolding agree
   agree-without h v = sym (ap (agree best i) (from-here s i h) ∙ simp (le-ltb _ _ v))
 
-  pub agree-none : i < length s → getD s i 0 < 156 → combination best (getD s i 0 % 12) ≡ none → Refused (NoConsensus i) ≡ agree best i (drop i s)
+  pub agree-none : i < length s → getD s i 0 < 156 → combination best (getD s i 0 % 12) ≡ none → refusal 12 i (255 ∷ []) ≡ agree best i (drop i s)
   unfolding agree
   agree-none h v n = sym (ap (agree best i) (from-here s i h) ∙ simp (lt-ltb _ _ v, n))
 
@@ -59,7 +66,7 @@ module _ (best : ℕ) (s : List ℕ) (i : ℕ) where
 
 -- with no base: the first component and the rest behind it
 module _ (s : List ℕ) where
-  pub first-none : length s ≡ 0 → Refused NothingToCombine ≡ agreeWithFirst s
+  pub first-none : length s ≡ 0 → refusal 11 0 (255 ∷ []) ≡ agreeWithFirst s
   first-none e = sym (ap agreeWithFirst (empty s e))
     where
       empty : (s : List ℕ) → length s ≡ 0 → s ≡ []
@@ -73,7 +80,7 @@ module _ (s : List ℕ) where
       go [] n = absurd (n refl)
       go (t ∷ ts) n = refl
 
-  pub first-without : (length s ≡ 0 → ⊥) → 156 ≤ getD s 0 0 → Refused (NoConsensus 0) ≡ agreeWithFirst s
+  pub first-without : (length s ≡ 0 → ⊥) → 156 ≤ getD s 0 0 → refusal 12 0 (255 ∷ []) ≡ agreeWithFirst s
   first-without n v = sym (ap agreeWithFirst (split n) ∙ simp (le-ltb _ _ v))
 
   pub first-agrees : (length s ≡ 0 → ⊥) → getD s 0 0 < 156 → agree (getD s 0 0 % 12) 1 (drop 1 s) ≡ agreeWithFirst s

@@ -2,17 +2,21 @@
 use mathlib.Core.Path.{_≡_, refl, sym, ap, _∙_}
 use mathlib.Core.Bool.{Bool, true, false}
 use mathlib.Core.List.{List, [], _∷_}
-use Prim.Native.Nat.{ℕ, suc, _-_, _*_, _%_, _^_, _≤_, _<_}
+use Prim.Native.Nat.{ℕ, suc, _+_, _-_, _*_, _/_, _%_, _^_, _≤_, _<_}
 use native.Mathlib.Omega.{arith}
 use lib.Count.{trailingZeros}
-use lib.Dec.{ltb, lit≤}
-use lib.ListN.{length}
-use borrow.Author.Tests.{lt-ltb, ltb-false, eqb-true}
-use Rattle.scalars.specs.Mask.{either, isOne, bits}
-use Rattle.domain.specs.Constructor.{setSize, sizeOf, sizeOfOne, outsideSizes}
-use Rattle.domain.specs.declared.constructor_set.SizeAnswer.the-variants.{Size, Refused}
-use Rattle.scalars.specs.declared.refusal.Refusal.the-variants.{SeveralConstructors}
+use lib.Dec.{eqb, ltb, lit≤}
+use lib.ListN.{length, getD}
+use borrow.Author.Tests.{lt-ltb, le-ltb, ltb-false, eqb-true, ne-eqb}
+use Rattle.scalars.specs.Mask.{choose, either, bits}
+use Rattle.domain.specs.Constructor.{setSize, sizes, sizeOfOne, outsideSizes}
+use Rattle.scalars.specs.Paper.{accepted, refusal}
 use Rattle.scalars.proofs.Bits.{bits-first, bits-within}
+use Rattle.scalars.proofs.Table.{entry}
+
+-- there is one member
+abbrev pub isOne : List ℕ → Bool
+isOne ks = eqb (length ks) 1
 
 module _ (m : ℕ) (p : 0 < m) (h : m < 2 ^ 13) where
   abbrev low : List ℕ
@@ -43,11 +47,29 @@ module _ (m : ℕ) (p : 0 < m) (h : m < 2 ^ 13) where
   unfolding setSize
   size-of-list = simp (lt-ltb _ _ h)
 
-  pub size-one : isOne (bits 16 m) ≡ true → setSize m ≡ Size (sizeOf (trailingZeros 16 m))
+  pub size-one : isOne (bits 16 m) ≡ true → setSize m ≡ accepted (getD sizes (trailingZeros 16 m) [])
   size-one e = size-of-list ∙ ap sizeOfOne (only-one e)
 
-  pub size-several : isOne (bits 16 m) ≡ false → setSize m ≡ Refused SeveralConstructors
+  pub size-several : isOne (bits 16 m) ≡ false → setSize m ≡ refusal 2 0 (255 ∷ 255 ∷ 255 ∷ [])
   size-several e = size-of-list ∙ ap sizeOfOne (several e .2)
+
+-- the thirteen sizes by their numbers: VECn has n components, and after the vectors come three matrices for each number of columns
+abbrev row : ℕ → List ℕ
+row k = choose (eqb k 0) (0 ∷ 255 ∷ 255 ∷ []) (choose (ltb k 4) (1 ∷ (k + 1) ∷ 255 ∷ []) (2 ∷ ((k - 4) / 3 + 2) ∷ ((k - 4) % 3 + 2) ∷ []))
+
+size-row : (k : ℕ) → k < 13 → getD sizes k [] ≡ row k
+unfolding sizes
+size-row k h = entry [] row 13 k h
+
+pub scalar-size : (k : ℕ) → k ≡ 0 → getD sizes k [] ≡ 0 ∷ 255 ∷ 255 ∷ []
+unfolding sizes
+scalar-size k e = ap (λ (n : ℕ). getD sizes n []) e
+
+pub vector-size : (k : ℕ) → (k ≡ 0 → ⊥) → k < 4 → getD sizes k [] ≡ 1 ∷ (k + 1) ∷ 255 ∷ []
+vector-size k n h = size-row k (omega arith) ∙ simp (ne-eqb _ _ n, lt-ltb _ _ h)
+
+pub matrix-size : (k : ℕ) → 4 ≤ k → k < 13 → getD sizes k [] ≡ 2 ∷ ((k - 4) / 3 + 2) ∷ ((k - 4) % 3 + 2) ∷ []
+matrix-size k l h = size-row k h ∙ simp (ne-eqb k 0 (λ z. absurd (omega arith)), le-ltb _ _ l)
 
 -- a number of components, columns or rows that is not outside
 pub inside : (n : ℕ) → outsideSizes n ≡ false → (2 ≤ n) × (n ≤ 4)

@@ -1,17 +1,11 @@
 -- The paper's numbers determine each answer about constructors, type codes and combinations: two answers of one kind with the same
 -- number, place and values are equal. Shown by a function that reads the answer back. Assumes nothing.
-use mathlib.Core.Path.{_≡_, refl, sym, ap, _∙_}
-use mathlib.Core.Bool.{Bool, true, false}
+use mathlib.Core.Path.{_≡_, refl}
 use mathlib.Core.List.{List, [], _∷_}
-use Prim.Native.Nat.{ℕ, _<_}
-use native.Mathlib.Omega.{arith}
-use lib.Dec.{eqb, ltb}
+use Prim.Native.Nat.{ℕ}
+use lib.Dec.{eqb}
 use lib.ListN.{getD}
-use borrow.Author.Tests.{ne-eqb, eqb-false, ltb-true}
 use Rattle.scalars.specs.Mask.{choose}
-use Rattle.scalars.specs.Domain.{value?, known?, scalarPart}
-use Rattle.domain.specs.TypeCode.{leafScalar}
-use Rattle.domain.specs.Conversion.{none, combination, combinedTo, combineOf}
 use Rattle.domain.specs.declared.constructor_set.ConstructorSize.the-variants as zone
 use Rattle.domain.specs.declared.constructor_set.SizeAnswer.{SizeAnswer}
 use Rattle.domain.specs.declared.constructor_set.SizeAnswer.the-variants as size
@@ -27,9 +21,7 @@ use Rattle.domain.specs.declared.type_code.LeafScalar.the-variants as le
 use Rattle.domain.specs.declared.conversion.Combination.{Combination}
 use Rattle.domain.specs.declared.conversion.Combination.the-variants as combined
 use Rattle.domain.specs.TypePaper.{constructorPaper, codePaper, leafPaper, combinationPaper, sizePaper, partsPaper}
-use Rattle.scalars.specs.declared.refusal.Refusal.the-variants.{Unknown}
 use Rattle.scalars.proofs.Papers.{read, reads-refused, one-to-one}
-use Rattle.domain.proofs.Combinations.{combination-known}
 
 abbrev constructorIn : List ℕ → ConstructorAnswer
 constructorIn vs = constructor.Constructor (record { 0 = getD vs 0 0 })
@@ -80,64 +72,30 @@ parts-back (parts.Refused why) = reads-refused partsIn parts.Refused why (255 �
 pub parts-one : (a b : PartsAnswer) → partsPaper a ≡ partsPaper b → a ≡ b
 parts-one = one-to-one partsPaper (read partsIn parts.Refused) parts-back
 
--- ---- a scalar or none: of the answers that the promises permit, whose scalars are known
-
-pub LeafKnown : LeafScalar → Type 0
-LeafKnown (leaf.Scalar s) = s .0 < 12
-LeafKnown leaf.Nothing = Unit
-LeafKnown (leaf.Refused why) = Unit
+-- ---- a scalar or none
 
 abbrev leafIn : List ℕ → LeafScalar
-leafIn vs = choose (eqb (getD vs 0 0) 255) leaf.Nothing (leaf.Scalar (record { 0 = getD vs 0 0 }))
+leafIn [] = leaf.Nothing
+leafIn (s ∷ vs) = leaf.Scalar (record { 0 = s })
 
-leaf-back : (a : LeafScalar) → LeafKnown a → read leafIn leaf.Refused (leafPaper a) ≡ a
-unfolding read LeafKnown
-leaf-back (leaf.Scalar s) k = ap (λ (b : Bool). choose b leaf.Nothing (leaf.Scalar s)) (ne-eqb (s .0) 255 (λ e. absurd (omega arith)))
-leaf-back leaf.Nothing k = refl
-leaf-back (leaf.Refused why) k = reads-refused leafIn leaf.Refused why (255 ∷ [])
+leaf-back : (a : LeafScalar) → read leafIn leaf.Refused (leafPaper a) ≡ a
+unfolding read
+leaf-back (leaf.Scalar s) = refl
+leaf-back leaf.Nothing = refl
+leaf-back (leaf.Refused why) = reads-refused leafIn leaf.Refused why (255 ∷ [])
 
-pub leaf-one : (a b : LeafScalar) → LeafKnown a → LeafKnown b → leafPaper a ≡ leafPaper b → a ≡ b
-leaf-one a b j k e = sym (leaf-back a j) ∙ ap (read leafIn leaf.Refused) e ∙ leaf-back b k
-
-pub CombinationKnown : Combination → Type 0
-CombinationKnown (combined.Scalar s) = s .0 < 12
-CombinationKnown combined.Nothing = Unit
-CombinationKnown (combined.Refused why) = Unit
+pub leaf-one : (a b : LeafScalar) → leafPaper a ≡ leafPaper b → a ≡ b
+leaf-one = one-to-one leafPaper (read leafIn leaf.Refused) leaf-back
 
 abbrev combinationIn : List ℕ → Combination
-combinationIn vs = choose (eqb (getD vs 0 0) 255) combined.Nothing (combined.Scalar (record { 0 = getD vs 0 0 }))
+combinationIn [] = combined.Nothing
+combinationIn (s ∷ vs) = combined.Scalar (record { 0 = s })
 
-combination-back : (a : Combination) → CombinationKnown a → read combinationIn combined.Refused (combinationPaper a) ≡ a
-unfolding read CombinationKnown
-combination-back (combined.Scalar s) k = ap (λ (b : Bool). choose b combined.Nothing (combined.Scalar s)) (ne-eqb (s .0) 255 (λ e. absurd (omega arith)))
-combination-back combined.Nothing k = refl
-combination-back (combined.Refused why) k = reads-refused combinationIn combined.Refused why (255 ∷ [])
+combination-back : (a : Combination) → read combinationIn combined.Refused (combinationPaper a) ≡ a
+unfolding read
+combination-back (combined.Scalar s) = refl
+combination-back combined.Nothing = refl
+combination-back (combined.Refused why) = reads-refused combinationIn combined.Refused why (255 ∷ [])
 
-pub combination-one : (a b : Combination) → CombinationKnown a → CombinationKnown b → combinationPaper a ≡ combinationPaper b → a ≡ b
-combination-one a b j k e = sym (combination-back a j) ∙ ap (read combinationIn combined.Refused) e ∙ combination-back b k
-
--- the promises permit no other answers
-
-pub leaf-permitted : (t : ℕ) → LeafKnown (leafScalar t)
-unfolding leafScalar LeafKnown
-leaf-permitted t = go (value? t) (known? t)
-  where
-    go : (v k : Bool) → LeafKnown (choose v (leaf.Scalar (record { 0 = scalarPart t })) (choose k leaf.Nothing (leaf.Refused (Unknown 0))))
-    go true k = omega arith
-    go false true = tt
-    go false false = tt
-
-pub combination-permitted : (a b : ℕ) → CombinationKnown (combineOf a b)
-unfolding combineOf CombinationKnown
-combination-permitted a b = go (ltb a 12) (ltb b 12) refl refl
-  where
-    of-scalar : (a < 12) → (b < 12) → (x : Bool) → eqb (combination a b) none ≡ x
-        → CombinationKnown (choose x combined.Nothing (combined.Scalar (record { 0 = combination a b })))
-    of-scalar h k true e = tt
-    of-scalar h k false e = combination-known a b h k (eqb-false _ _ e)
-
-    go : (x y : Bool) → ltb a 12 ≡ x → ltb b 12 ≡ y
-        → CombinationKnown (choose x (choose y (combinedTo (combination a b)) (combined.Refused (Unknown 1))) (combined.Refused (Unknown 0)))
-    go false y e f = tt
-    go true false e f = tt
-    go true true e f = of-scalar (ltb-true a 12 e) (ltb-true b 12 f) (eqb (combination a b) none) refl
+pub combination-one : (a b : Combination) → combinationPaper a ≡ combinationPaper b → a ≡ b
+combination-one = one-to-one combinationPaper (read combinationIn combined.Refused) combination-back

@@ -29,16 +29,16 @@ abbrev pub codePaper : CodeAnswer → Paper
 codePaper (code.Code t) = accepted (t ∷ [])
 codePaper (code.Refused why) = refused why (255 ∷ [])
 
--- ---- a scalar or none, which is 255
+-- ---- a scalar, or none, which has no value
 
 abbrev pub leafPaper : LeafScalar → Paper
 leafPaper (leaf.Scalar s) = accepted (s .0 ∷ [])
-leafPaper leaf.Nothing = accepted (255 ∷ [])
+leafPaper leaf.Nothing = accepted []
 leafPaper (leaf.Refused why) = refused why (255 ∷ [])
 
 abbrev pub combinationPaper : Combination → Paper
 combinationPaper (combined.Scalar s) = accepted (s .0 ∷ [])
-combinationPaper combined.Nothing = accepted (255 ∷ [])
+combinationPaper combined.Nothing = accepted []
 combinationPaper (combined.Refused why) = refused why (255 ∷ [])
 
 -- ---- a kind by its number, then its parts

@@ -3,12 +3,16 @@
 // Bit k of a mask stands for the constructor numbered k: SCALAR, VEC2 to VEC4, then the matrices, columns before rows.
 
 ghost use mathlib.Core.Path.{_≡_};
-ghost use mathlib.Core.List.{map};
-ghost use Prim.Native.Nat.{_^_};
+ghost use mathlib.Core.List.{[], map};
+ghost use lib.Dec.{eqb};
+ghost use lib.ListN.{getD, length};
+ghost use Prim.Native.Nat.{_^_, _<_};
 ghost use lib.Bits.{bitAnd};
-ghost use Rattle.scalars.specs.Mask.{upTo, isOne, bits};
+ghost use Rattle.scalars.specs.Mask.{upTo, bits};
 ghost use Rattle.scalars.specs.OneBits.{membersWithin};
-ghost use Rattle.domain.specs.Constructor.{singletonOfCode, setSize, sizeOf, constructorOf, innerOf, outsideSizes, vecn};
+ghost use Rattle.scalars.specs.Paper.{membersPaper};
+ghost use Rattle.domain.specs.TypePaper.{sizeValues, sizePaper, constructorPaper, codePaper};
+ghost use Rattle.domain.specs.Constructor.{singletonOfCode, setSize, sizes, constructorOf, innerOf, outsideSizes, constructorsThat, vector?};
 use crate::type_code::CodeAnswer;
 use crate::type_code::value_code;
 use scalars::Members;
@@ -100,14 +104,14 @@ impl ConstructorSet {
 
     // Whether the set has one member: the count of ones is one.
     pub fn is_singleton(self) -> bool
-        ensures { λ r. ⌜ r ≡ isOne (bits 16 (self .0)) ⌝ }
+        ensures { λ r. ⌜ r ≡ eqb (length (bits 16 (self .0))) 1 ⌝ }
     {
         u16::count_ones(self.0) == 1
     }
 
     // The members' numbers, lowest first. Refused 7 for an unknown bit.
     pub fn members(self) -> Members
-        ensures { λ r. ⌜ r ≡ membersWithin 13 (self .0) ⌝ }
+        ensures { λ r. ⌜ membersPaper r ≡ membersWithin 13 (self .0) ⌝ }
     {
         let mask = self.0;
         if ConstructorSet::ALL < mask {
@@ -118,7 +122,7 @@ impl ConstructorSet {
 
     // The size of the one member. Refused 7 for an unknown bit, 1 for the empty set, 2 for several members.
     pub fn size(self) -> SizeAnswer
-        ensures { λ r. ⌜ r ≡ setSize (self .0) ⌝ }
+        ensures { λ r. ⌜ sizePaper r ≡ setSize (self .0) ⌝ }
     {
         let mask = self.0;
         if ConstructorSet::ALL < mask {
@@ -157,7 +161,7 @@ impl ConstructorSet {
 
     // The set that `constructor_set.rs` names VECN.
     pub fn vecn() -> ConstructorSet
-        ensures { λ r. ⌜ r .0 ≡ vecn ⌝ }
+        ensures { λ r. ⌜ r .0 ≡ constructorsThat vector? ⌝ }
     {
         ConstructorSet::VECN
     }
@@ -165,7 +169,8 @@ impl ConstructorSet {
 
 // The size of the constructor numbered k.
 fn size_of(k: u8) -> ConstructorSize
-    ensures { λ r. ⌜ r ≡ sizeOf k ⌝ }
+    requires { ⌜ k < 13 ⌝ }
+    ensures { λ r. ⌜ sizeValues r ≡ getD sizes k [] ⌝ }
 {
     if k == 0 {
         return ConstructorSize::Scalar;
@@ -182,7 +187,7 @@ fn size_of(k: u8) -> ConstructorSize
 impl ConstructorSize {
     // The constructor of this size. Refused 7 for a vector or a matrix that does not exist.
     pub fn constructor(self) -> ConstructorAnswer
-        ensures { λ r. ⌜ r ≡ constructorOf self ⌝ }
+        ensures { λ r. ⌜ constructorPaper r ≡ constructorOf self ⌝ }
     {
         match self {
             ConstructorSize::Scalar => ConstructorAnswer::Constructor(Constructor(0)),
@@ -206,7 +211,7 @@ impl ConstructorSize {
 
     // The type code of this size and the scalar. Refused 7, at 0 for the size, then at 1 for the scalar.
     pub fn to_inner(self, scalar: Scalar) -> CodeAnswer
-        ensures { λ r. ⌜ r ≡ innerOf self (scalar .0) ⌝ }
+        ensures { λ r. ⌜ codePaper r ≡ innerOf self (scalar .0) ⌝ }
     {
         match self.constructor() {
             ConstructorAnswer::Refused(why) => CodeAnswer::Refused(why),

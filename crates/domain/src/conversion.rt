@@ -5,11 +5,10 @@
 
 ghost use mathlib.Core.Path.{_≡_};
 ghost use Prim.Native.Nat.{_<_, _≤_};
-ghost use lib.Dec.{ltb};
 ghost use lib.ListN.{drop, length};
-ghost use Rattle.scalars.specs.Mask.{both};
-ghost use Rattle.scalars.specs.Domain.{converts};
-ghost use Rattle.domain.specs.Conversion.{convertsTo, combination, combineOf, consensusOf, consensusWith, consensusWithout, agree};
+ghost use Rattle.scalars.specs.Paper.{testPaper, scalarPaper};
+ghost use Rattle.domain.specs.TypePaper.{combinationPaper};
+ghost use Rattle.domain.specs.Conversion.{convertsTo, combination, combineOf, consensusOf, agree};
 use crate::type_code::VALUES;
 use crate::type_code::first_unknown;
 use scalars::Refusal;
@@ -184,7 +183,7 @@ const COMBINED: [u8; 144] = [
 
 // Whether the first scalar converts to the second. Refused 7 for an unknown scalar, at 0, then at 1.
 pub fn automatically_converts_to(from: Scalar, to: Scalar) -> Test
-    ensures { λ r. ⌜ r ≡ convertsTo (from .0) (to .0) ⌝ }
+    ensures { λ r. ⌜ testPaper r ≡ convertsTo (from .0) (to .0) ⌝ }
 {
     if Scalar::COUNT <= from.0 {
         return Test::Refused(Refusal::Unknown(0));
@@ -192,24 +191,10 @@ pub fn automatically_converts_to(from: Scalar, to: Scalar) -> Test
     if Scalar::COUNT <= to.0 {
         return Test::Refused(Refusal::Unknown(1));
     }
-    if scalar_converts(from.0, to.0) {
+    if ScalarSet::convertible_from(from).contains(to) {
         return Test::Yes;
     }
     Test::No
-}
-
-// Whether both scalars are known and the first converts to the second.
-pub fn scalar_converts(from: u8, to: u8) -> bool
-    ensures { λ r. ⌜ r ≡ both (ltb from 12) (both (ltb to 12) (converts from to)) ⌝ }
-{
-    if Scalar::COUNT <= from {
-        return false;
-    }
-    if Scalar::COUNT <= to {
-        return false;
-    }
-    let reached = ScalarSet::convertible_from(Scalar(from));
-    (reached.0 >> to) % 2 == 1
 }
 
 // The combination of two known scalars, or NONE.
@@ -223,7 +208,7 @@ fn combined(a: u8, b: u8) -> u8
 
 // The one of two scalars that the other converts to, or nothing. Refused 7 for an unknown scalar, at 0, then at 1.
 pub fn automatic_conversion_combine(a: Scalar, b: Scalar) -> Combination
-    ensures { λ r. ⌜ r ≡ combineOf (a .0) (b .0) ⌝ }
+    ensures { λ r. ⌜ combinationPaper r ≡ combineOf (a .0) (b .0) ⌝ }
 {
     if Scalar::COUNT <= a.0 {
         return Combination::Refused(Refusal::Unknown(0));
@@ -241,31 +226,31 @@ pub fn automatic_conversion_combine(a: Scalar, b: Scalar) -> Combination
 // The scalar that the base, if there is one, and all components convert to. Refused 7 at 0 for an unknown base, at 1 + index for
 // an unknown component; 11 with neither base nor components; 12 at the first component with no scalar or no combination.
 pub fn automatic_conversion_consensus(base: Base, components: &[u8]) -> ScalarAnswer
-    ensures { λ r. ⌜ r ≡ consensusOf base (now (components .entry)) ⌝ }
+    ensures { λ r. ⌜ scalarPaper r ≡ consensusOf base (now (components .entry)) ⌝ }
 {
     match base {
-        Base::Scalar(scalar) => consensus_with(scalar.0, components),
+        Base::Scalar(scalar) => consensus_with(scalar, components),
         Base::Nothing => consensus_without(components),
     }
 }
 
 // The consensus with a base.
-fn consensus_with(base: u8, components: &[u8]) -> ScalarAnswer
-    ensures { λ r. ⌜ r ≡ consensusWith base (now (components .entry)) ⌝ }
+fn consensus_with(base: Scalar, components: &[u8]) -> ScalarAnswer
+    ensures { λ r. ⌜ scalarPaper r ≡ consensusOf (Base.Scalar base) (now (components .entry)) ⌝ }
 {
-    if Scalar::COUNT <= base {
+    if Scalar::COUNT <= base.0 {
         return ScalarAnswer::Refused(Refusal::Unknown(0));
     }
     let known = first_unknown(components);
     if known < components.len() {
         return ScalarAnswer::Refused(Refusal::Unknown(1 + known));
     }
-    agree_from(components, 0, base)
+    agree_from(components, 0, base.0)
 }
 
 // The consensus with the first component as its base.
 fn consensus_without(components: &[u8]) -> ScalarAnswer
-    ensures { λ r. ⌜ r ≡ consensusWithout (now (components .entry)) ⌝ }
+    ensures { λ r. ⌜ scalarPaper r ≡ consensusOf Base.Nothing (now (components .entry)) ⌝ }
 {
     let known = first_unknown(components);
     if known < components.len() {
@@ -284,7 +269,7 @@ fn consensus_without(components: &[u8]) -> ScalarAnswer
 // The consensus of `best` and the components from `start` on, each blamed by its own index.
 fn agree_from(components: &[u8], start: usize, base: u8) -> ScalarAnswer
     requires { ⌜ (base < 12) × (start ≤ length (now components)) ⌝ }
-    ensures { λ r. ⌜ r ≡ agree base start (drop start (now (components .entry))) ⌝ }
+    ensures { λ r. ⌜ scalarPaper r ≡ agree base start (drop start (now (components .entry))) ⌝ }
 {
     let mut best = base;
     let mut i = start;

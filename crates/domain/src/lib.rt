@@ -16,7 +16,6 @@ pub use conversion::Combination;
 pub use conversion::automatic_conversion_combine;
 pub use conversion::automatic_conversion_consensus;
 pub use conversion::automatically_converts_to;
-pub use conversion::scalar_converts;
 pub use type_code::CodeAnswer;
 pub use type_code::LAST_CODE;
 pub use type_code::LeafScalar;

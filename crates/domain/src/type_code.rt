@@ -6,7 +6,8 @@
 ghost use mathlib.Core.Path.{_≡_};
 ghost use Prim.Native.Nat.{_≤_};
 ghost use Rattle.scalars.specs.Domain.{firstUnknown, isAbstract};
-ghost use Rattle.domain.specs.TypeCode.{partsOf, codeOf, valueCode, predeclaredCode, leafScalar};
+ghost use Rattle.domain.specs.TypePaper.{partsPaper, codePaper, leafPaper};
+ghost use Rattle.domain.specs.TypeCode.{PartsOf, codeOf, valueCode, predeclaredCode, leafScalar};
 use crate::constructor_set::Constructor;
 use scalars::Refusal;
 use scalars::Scalar;
@@ -50,7 +51,7 @@ pub enum LeafScalar {
 
 // What the code stands for. Refused 7 above 180.
 pub fn type_parts(code: u8) -> PartsAnswer
-    ensures { λ r. ⌜ r ≡ partsOf code ⌝ }
+    ensures { λ r. ⌜ PartsOf code (partsPaper r) ⌝ }
 {
     if code < VALUES {
         return PartsAnswer::Parts(TypeParts::Value(Constructor(code / 12), Scalar(code % 12)));
@@ -72,7 +73,7 @@ pub fn type_parts(code: u8) -> PartsAnswer
 // The code of the parts. Refused 7 at 0 for an unknown constructor, at 1 for an unknown scalar; then 13 for what Modf and Frexp
 // do not answer.
 pub fn code_of(parts: TypeParts) -> CodeAnswer
-    ensures { λ r. ⌜ r ≡ codeOf parts ⌝ }
+    ensures { λ r. ⌜ codePaper r ≡ codeOf parts ⌝ }
 {
     match parts {
         TypeParts::Value(constructor, scalar) => value_code(constructor, scalar),
@@ -84,7 +85,7 @@ pub fn code_of(parts: TypeParts) -> CodeAnswer
 
 // The code of a value type.
 pub(crate) fn value_code(constructor: Constructor, scalar: Scalar) -> CodeAnswer
-    ensures { λ r. ⌜ r ≡ valueCode (constructor .0) (scalar .0) ⌝ }
+    ensures { λ r. ⌜ codePaper r ≡ valueCode (constructor .0) (scalar .0) ⌝ }
 {
     let k = constructor.0;
     let s = scalar.0;
@@ -100,7 +101,7 @@ pub(crate) fn value_code(constructor: Constructor, scalar: Scalar) -> CodeAnswer
 // The code of what Modf or Frexp answers, of which `first` is the first: for scalars and vectors of F32, F16 and F64.
 fn predeclared_code(first: u8, constructor: Constructor, scalar: Scalar) -> CodeAnswer
     requires { ⌜ first ≤ 169 ⌝ }
-    ensures { λ r. ⌜ r ≡ predeclaredCode first (constructor .0) (scalar .0) ⌝ }
+    ensures { λ r. ⌜ codePaper r ≡ predeclaredCode first (constructor .0) (scalar .0) ⌝ }
 {
     let k = constructor.0;
     let s = scalar.0;
@@ -124,7 +125,7 @@ fn predeclared_code(first: u8, constructor: Constructor, scalar: Scalar) -> Code
 
 // The scalar of the type: of a value type; the others have none. Refused 7 above 180.
 pub fn leaf_scalar(code: u8) -> LeafScalar
-    ensures { λ r. ⌜ r ≡ leafScalar code ⌝ }
+    ensures { λ r. ⌜ leafPaper r ≡ leafScalar code ⌝ }
 {
     if code < VALUES {
         return LeafScalar::Scalar(Scalar(code % 12));

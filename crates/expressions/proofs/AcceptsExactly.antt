@@ -9,8 +9,8 @@ use native.Mathlib.Omega.{arith}
 use borrow.Author.Tests.{le-ltb, ltb-false}
 use lib.ListN.{length, drop-of-length-le}
 use Rattle.scalars.specs.Mask.{choose}
-use Rattle.scalars.specs.declared.refusal.Refusal.the-variants.{IllFormed}
-use Rattle.expressions.specs.Tree.{Tree, bytesOf, deepest, WellFormed}
+use Rattle.expressions.specs.Tree.{Tree, bytesOf, deepest}
+use Rattle.expressions.specs.claims.Limits.{WellFormed}
 use Rattle.expressions.specs.Reading.{Reading, done, refused, Expression, read, refusedAs, present, nodeAt, whole, expressionOf}
 use Rattle.expressions.proofs.Sound.{Found, Sound, node-sound}
 use Rattle.expressions.proofs.Complete.{node-complete}
@@ -18,19 +18,19 @@ use Rattle.expressions.proofs.Complete.{node-complete}
 -- what is read is what the bytes spell
 abbrev Right : ℕ → List ℕ → Expression → Type 0
 Right functions s (read e) = (s ≡ bytesOf e) × WellFormed functions e
-Right functions s (refusedAs fault) = Unit
+Right functions s (refusedAs number place) = Unit
 
 module _ (functions : ℕ) (s : List ℕ) where
   nothing-left : (e : Tree) (at n : ℕ) → Found functions s deepest 0 0 e at n → (left : Bool) → present s at ≡ left
-      → Right functions s (choose left (refusedAs (IllFormed at)) (read e))
+      → Right functions s (choose left (refusedAs 8 at) (read e))
   nothing-left e at n k true p = tt
   nothing-left e at n k false p = (
     k .text ∙ ap (λ l. bytesOf e ++ l) (drop-of-length-le s (ltb-false _ _ p)) ∙ append-nil (bytesOf e),
     record { known = k .known; few = omega arith; low = k .low },
   )
 
-  whole-right : (r : Reading) → Sound functions s deepest 0 0 r → Right functions s (whole s r)
-  whole-right (refused fault) k = tt
+  whole-right : (r : Reading Tree) → Sound functions s deepest 0 0 r → Right functions s (whole s r)
+  whole-right (refused number place) k = tt
   whole-right (done e at n) k = nothing-left e at n k (present s at) refl
 
   pub accepts-only : (e : Tree) → expressionOf functions s ≡ read e → (s ≡ bytesOf e) × WellFormed functions e

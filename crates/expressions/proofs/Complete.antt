@@ -6,9 +6,11 @@ use Prim.Native.Nat.{ℕ, zero, suc, _+_, _≤_}
 use native.Mathlib.Omega.{arith}
 use borrow.Author.Tests.{le-leb, lt-ltb}
 use lib.ListN.{length, drop, length-append}
-use Rattle.expressions.specs.Tree.{Tree, Trees, leaf, call, none, more, count, bytesOf, bytesOfAll, nodes, nodesAll, levels, levelsAll, Known, KnownAll, mostNodes, lastLeaf}
-use Rattle.expressions.specs.Reading.{done, allDone, inFront, andThen, argsAt, callNode, leafAt, callAt, taggedAt, nodeAt}
+use Rattle.expressions.specs.Tree.{Tree, Trees, leaf, call, none, more, count, bytesOf, bytesOfAll, nodes, nodesAll, mostNodes, lastLeaf}
+use Rattle.expressions.specs.claims.Limits.{levels, levelsAll, Known, KnownAll}
+use Rattle.expressions.specs.Reading.{done, andThen, argsAt, leafAt, callAt, taggedAt, nodeAt}
 use Rattle.expressions.proofs.Bytes.{after, leaf-there, call-there}
+use Rattle.expressions.proofs.Sound.{followed}
 
 module _ (functions : ℕ) (s : List ℕ) where
   mutual
@@ -32,16 +34,17 @@ module _ (functions : ℕ) (s : List ℕ) where
         let number-here = lt-ltb (at + 2) (length s) (x .here) in
         let args = args-complete es d (at + 3) (n + 1) rest (known .1) (omega arith) (omega arith) (x .arguments) in
         simp (tag-here, allowed, x .tag, function-here, x .function, lt-ltb f functions (known .0), number-here, x .number)
-        (ap (callNode f) args ∙ ap₂ (done (call f es)) (omega arith) (omega arith))
+        (ap (λ r. andThen r (λ es′. done (call f es′))) args ∙ ap₂ (done (call f es)) (omega arith) (omega arith))
 
     pub args-complete : (es : Trees) (d at n : ℕ) (rest : List ℕ) → KnownAll functions es → levelsAll es ≤ d
         → n + nodesAll es ≤ mostNodes → drop at s ≡ bytesOfAll es ++ rest
-        → argsAt (nodeAt functions s d) (count es) at n ≡ allDone es (at + length (bytesOfAll es)) (n + nodesAll es)
-    args-complete none d at n rest known low few text = ap₂ (allDone none) (omega arith) (omega arith)
+        → argsAt (nodeAt functions s d) (count es) at n ≡ done es (at + length (bytesOfAll es)) (n + nodesAll es)
+    args-complete none d at n rest known low few text = ap₂ (done none) (omega arith) (omega arith)
     args-complete (more e es) d at n rest known low few text =
         let split : drop at s ≡ bytesOf e ++ (bytesOfAll es ++ rest) = text ∙ append-assoc (bytesOf e) (bytesOfAll es) rest in
         let next : drop (at + length (bytesOf e)) s ≡ bytesOfAll es ++ rest = after s (bytesOf e) (bytesOfAll es ++ rest) at split in
         let one = node-complete e d at n (bytesOfAll es ++ rest) (known .0) (omega arith) (omega arith) split in
         let others = args-complete es d (at + length (bytesOf e)) (n + nodes e) rest (known .1) (omega arith) (omega arith) next in
-        ap (λ r. andThen r (argsAt (nodeAt functions s d) (count es))) one ∙ ap (inFront e) others
-        ∙ ap₂ (allDone (more e es)) (omega (arith, length-append (bytesOf e) (bytesOfAll es))) (omega arith)
+        ap (λ r. followed r (argsAt (nodeAt functions s d) (count es))) one
+        ∙ ap (λ r. andThen r (λ es′. done (more e es′))) others
+        ∙ ap₂ (done (more e es)) (omega (arith, length-append (bytesOf e) (bytesOfAll es))) (omega arith)

@@ -2,7 +2,7 @@
 -- them, which is either left over or the tag of a 65th node. So a program that holds the first 193 bytes or more of its input,
 -- and drops the others, answers as if it held them all, places included. This holds for every number of known functions.
 -- Assumes nothing.
-use mathlib.Core.Path.{_≡_, refl, sym, ap, _∙_}
+use mathlib.Core.Path.{_≡_, refl, sym, ap, ap₂, _∙_}
 use mathlib.Core.Bool.{Bool, true, false}
 use mathlib.Core.List.{List}
 use Prim.Native.Nat.{ℕ, zero, suc, _+_, _*_, _≤_, _<_}
@@ -13,12 +13,10 @@ use lib.Dec.{ltb}
 use lib.ListN.{length, take, length-take}
 use lib.Seq.{getD-take}
 use Rattle.scalars.specs.Mask.{choose}
-use Rattle.scalars.specs.declared.refusal.Refusal.{Refusal}
-use Rattle.scalars.specs.declared.refusal.Refusal.the-variants.{IllFormed, TooLarge}
-use Rattle.expressions.specs.Tree.{mostNodes, deepest}
-use Rattle.expressions.specs.Reading.{Reading, done, refused, Readings, read, refusedAs, demand, inFront, andThen, argsAt, present, byteAt, leafAt, callAt, taggedAt, nodeAt, whole, expressionOf}
+use Rattle.expressions.specs.Tree.{Tree, Trees, call, more, mostNodes, deepest}
+use Rattle.expressions.specs.Reading.{Reading, done, refused, read, refusedAs, demand, andThen, argsAt, present, byteAt, leafAt, callAt, taggedAt, nodeAt, whole, expressionOf}
 use Rattle.expressions.proofs.Bytes.{bytes-most, mostBytes}
-use Rattle.expressions.proofs.Sound.{Sound, node-sound}
+use Rattle.expressions.proofs.Sound.{followed, Sound, node-sound}
 
 -- the bytes that are looked at: those of an expression, and one more
 abbrev pub enough : ℕ
@@ -33,23 +31,24 @@ pub record Alike (s t : List ℕ) : Type 0 where
 abbrev Same : {A : Type 0} → (ℕ → ℕ → A) → (ℕ → ℕ → A) → Type 0
 Same x y = (at n : ℕ) → at ≤ 3 * n → n ≤ mostNodes → x at n ≡ y at n
 
-under : (test : Bool) (fault : Refusal) (x y : Reading) → (test ≡ true → x ≡ y) → demand test fault x ≡ demand test fault y
-under true fault x y e = e refl
-under false fault x y e = refl
+under : (test : Bool) (number place : ℕ) (x y : Reading Tree) → (test ≡ true → x ≡ y)
+    → demand test number place x ≡ demand test number place y
+under true number place x y e = e refl
+under false number place x y e = refl
 
 module _ (functions : ℕ) (s t : List ℕ) (alike : Alike s t) where
   -- nodes of at most d levels, in either string
-  abbrev nodeS : ℕ → ℕ → ℕ → Reading
+  abbrev nodeS : ℕ → ℕ → ℕ → Reading Tree
   nodeS d = nodeAt functions s d
 
-  abbrev nodeT : ℕ → ℕ → ℕ → Reading
+  abbrev nodeT : ℕ → ℕ → ℕ → Reading Tree
   nodeT d = nodeAt functions t d
 
-  then-same : (d at n : ℕ) (one : Reading) (x y : ℕ → ℕ → Readings) → at ≤ 3 * n → Sound functions s d at n one → Same x y
-      → andThen one x ≡ andThen one y
-  then-same d at n (refused fault) x y near k e = refl
+  then-same : (d at n : ℕ) (one : Reading Tree) (x y : ℕ → ℕ → Reading Trees) → at ≤ 3 * n → Sound functions s d at n one → Same x y
+      → followed one x ≡ followed one y
+  then-same d at n (refused number place) x y near k e = refl
   then-same d at n (done tree next m) x y near k e =
-      ap (inFront tree) (e next m (omega (arith, bytes-most tree, k .ends, k .counted)) (k .few))
+      ap (λ r. andThen r (λ es. done (more tree es))) (e next m (omega (arith, bytes-most tree, k .ends, k .counted)) (k .few))
 
   args-same : (d left : ℕ) → Same (nodeS d) (nodeT d) → Same (argsAt (nodeS d) left) (argsAt (nodeT d) left)
   unfolding argsAt
@@ -57,7 +56,7 @@ module _ (functions : ℕ) (s t : List ℕ) (alike : Alike s t) where
   args-same d (suc left) e at n near few =
       let others = args-same d left e in
       then-same d at n (nodeS d at n) (argsAt (nodeS d) left) (argsAt (nodeT d) left) near (node-sound functions s d at n) others
-      ∙ ap (λ r. andThen r (argsAt (nodeT d) left)) (e at n near few)
+      ∙ ap (λ r. followed r (argsAt (nodeT d) left)) (e at n near few)
 
   -- below the limit on nodes, a node's tag and the two bytes behind it are looked at in both
   tagged-same : (d at n : ℕ) → Same (nodeS d) (nodeT d) → at ≤ 3 * n → n < mostNodes
@@ -69,7 +68,9 @@ module _ (functions : ℕ) (s t : List ℕ) (alike : Alike s t) where
       let first = alike .byte (at + 1) (omega arith) in
       let second-here = alike .here (at + 2) (omega arith) in
       let second = alike .byte (at + 2) (omega arith) in
-      let args = args-same d (byteAt s (at + 2)) e (at + 3) (n + 1) (omega arith) (omega arith) in
+      let args = args-same d (byteAt s (at + 2)) e (at + 3) (n + 1) (omega arith) (omega arith)
+      ∙ ap (λ many. argsAt (nodeT d) many (at + 3) (n + 1)) second in
+      let made = ap₂ (λ f r. andThen r (λ es. done (call f es))) first args in
       cc
 
   node-same : (d : ℕ) → Same (nodeS d) (nodeT d)
@@ -78,15 +79,15 @@ module _ (functions : ℕ) (s t : List ℕ) (alike : Alike s t) where
   node-same (suc d) at n near few =
       let here = alike .here at (omega arith) in
       let rest =
-      under (ltb n mostNodes) (TooLarge at) (taggedAt functions s (nodeS d) at n) (taggedAt functions t (nodeT d) at n)
+      under (ltb n mostNodes) 9 at (taggedAt functions s (nodeS d) at n) (taggedAt functions t (nodeT d) at n)
       (λ m. tagged-same d at n (node-same d) near (ltb-true _ _ m)) in
       cc
 
-  whole-same : (r : Reading) → Sound functions s deepest 0 0 r → whole s r ≡ whole t r
-  whole-same (refused fault) k = refl
+  whole-same : (r : Reading Tree) → Sound functions s deepest 0 0 r → whole s r ≡ whole t r
+  whole-same (refused number place) k = refl
   whole-same (done e at n) k =
       let here = alike .here at (omega (arith, bytes-most e, k .ends, k .counted, k .few)) in
-      ap (λ p. choose p (refusedAs (IllFormed at)) (read e)) here
+      ap (λ p. choose p (refusedAs 8 at) (read e)) here
 
   pub alike-same : expressionOf functions s ≡ expressionOf functions t
   unfolding expressionOf

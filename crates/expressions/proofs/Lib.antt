@@ -5,6 +5,6 @@ pub mod Complete
 pub mod AcceptsExactly
 pub mod OneTree
 pub mod FirstBytes
-pub mod Steps
 pub mod Answers
+pub mod Steps
 pub mod Papers

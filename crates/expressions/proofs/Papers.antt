@@ -6,7 +6,7 @@ use lib.ListN.{getD}
 use Rattle.scalars.proofs.Papers.{read, reads-refused, one-to-one}
 use Rattle.expressions.specs.declared.expression.Read.{Read}
 use Rattle.expressions.specs.declared.expression.Read.the-variants.{Accepted, Refused}
-use Rattle.expressions.specs.FirstPass.{readPaper}
+use Rattle.expressions.specs.ReadPaper.{readPaper}
 
 read-back : (a : Read) → read (λ vs. Accepted (getD vs 0 0)) Refused (readPaper a) ≡ a
 unfolding read

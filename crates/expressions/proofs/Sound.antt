@@ -10,10 +10,14 @@ use borrow.Author.Tests.{leb-true, ltb-true, eqb-true}
 use lib.Dec.{eqb, leb, ltb}
 use lib.ListN.{length, drop, length-append}
 use Rattle.scalars.specs.Mask.{choose}
-use Rattle.scalars.specs.declared.refusal.Refusal.{Refusal}
-use Rattle.expressions.specs.Tree.{Tree, Trees, count, bytesOf, bytesOfAll, nodes, nodesAll, levels, levelsAll, Known, KnownAll, mostNodes, lastLeaf, leafTag, callTag}
-use Rattle.expressions.specs.Reading.{Reading, done, refused, Readings, allDone, stopped, demand, inFront, andThen, argsAt, callNode, present, byteAt, leafAt, callAt, taggedAt, nodeAt}
+use Rattle.expressions.specs.Tree.{Tree, Trees, call, more, count, bytesOf, bytesOfAll, nodes, nodesAll, mostNodes, lastLeaf, leafTag, callTag}
+use Rattle.expressions.specs.claims.Limits.{levels, levelsAll, Known, KnownAll}
+use Rattle.expressions.specs.Reading.{Reading, done, refused, demand, andThen, argsAt, present, byteAt, leafAt, callAt, taggedAt, nodeAt}
 use Rattle.expressions.proofs.Bytes.{head-at}
+
+-- one argument, then those behind it
+abbrev pub followed : Reading Tree → (ℕ → ℕ → Reading Trees) → Reading Trees
+followed one others = andThen one (λ e next m. andThen (others next m) (λ es. done (more e es)))
 
 -- the tree e has at most d levels, its bytes reach from `at` to `next`, and its nodes bring the number from n to m
 pub record Found (functions : ℕ) (s : List ℕ) (d at n : ℕ) (e : Tree) (next m : ℕ) : Type 0 where
@@ -37,38 +41,38 @@ pub record FoundAll (functions : ℕ) (s : List ℕ) (d left at n : ℕ) (es : T
   pub few : m ≤ mostNodes
 
 -- what a reading hands back is there; a refusal claims nothing
-abbrev pub Sound : ℕ → List ℕ → ℕ → ℕ → ℕ → Reading → Type 0
+abbrev pub Sound : ℕ → List ℕ → ℕ → ℕ → ℕ → Reading Tree → Type 0
 Sound functions s d at n (done e next m) = Found functions s d at n e next m
-Sound functions s d at n (refused fault) = Unit
+Sound functions s d at n (refused number place) = Unit
 
-abbrev pub SoundAll : ℕ → List ℕ → ℕ → ℕ → ℕ → ℕ → Readings → Type 0
-SoundAll functions s d left at n (allDone es next m) = FoundAll functions s d left at n es next m
-SoundAll functions s d left at n (stopped fault) = Unit
+abbrev pub SoundAll : ℕ → List ℕ → ℕ → ℕ → ℕ → ℕ → Reading Trees → Type 0
+SoundAll functions s d left at n (done es next m) = FoundAll functions s d left at n es next m
+SoundAll functions s d left at n (refused number place) = Unit
 
 module _ (functions : ℕ) (s : List ℕ) (d at n : ℕ) where
   -- what holds of either side of a choice, under its test, holds of the choice
-  either-way : (test : Bool) (x y : Reading) → (test ≡ true → Sound functions s d at n x) → (test ≡ false → Sound functions s d at n y)
+  either-way : (test : Bool) (x y : Reading Tree) → (test ≡ true → Sound functions s d at n x) → (test ≡ false → Sound functions s d at n y)
       → Sound functions s d at n (choose test x y)
   either-way true x y p q = p refl
   either-way false x y p q = q refl
 
-  demanded : (test : Bool) (fault : Refusal) (rest : Reading) → (test ≡ true → Sound functions s d at n rest)
-      → Sound functions s d at n (demand test fault rest)
-  demanded test fault rest p = either-way test rest (refused fault) p (λ _. tt)
+  demanded : (test : Bool) (number place : ℕ) (rest : Reading Tree) → (test ≡ true → Sound functions s d at n rest)
+      → Sound functions s d at n (demand test number place rest)
+  demanded test number place rest p = either-way test rest (refused number place) p (λ _. tt)
 
 module _ (functions : ℕ) (s : List ℕ) (d : ℕ) where
   -- a way of reading nodes of at most d levels, and one of reading so many of them
-  abbrev Nodes : (ℕ → ℕ → Reading) → Type 0
+  abbrev Nodes : (ℕ → ℕ → Reading Tree) → Type 0
   Nodes node = (at n : ℕ) → Sound functions s d at n (node at n)
 
-  abbrev Others : ℕ → (ℕ → ℕ → Readings) → Type 0
+  abbrev Others : ℕ → (ℕ → ℕ → Reading Trees) → Type 0
   Others left others = (at n : ℕ) → at ≤ length s → n ≤ mostNodes → SoundAll functions s d left at n (others at n)
 
-  in-front-sound : (left at n : ℕ) (e : Tree) (next m : ℕ) (others : Readings) → Found functions s d at n e next m
-      → SoundAll functions s d left next m others → SoundAll functions s d (suc left) at n (inFront e others)
+  in-front-sound : (left at n : ℕ) (e : Tree) (next m : ℕ) (others : Reading Trees) → Found functions s d at n e next m
+      → SoundAll functions s d left next m others → SoundAll functions s d (suc left) at n (andThen others (λ es. done (more e es)))
   unfolding count bytesOf nodes levels Known
-  in-front-sound left at n e next m (stopped fault) one rest = tt
-  in-front-sound left at n e next m (allDone es end k) one rest = record {
+  in-front-sound left at n e next m (refused number place) one rest = tt
+  in-front-sound left at n e next m (done es end k) one rest = record {
     many = ap suc (rest .many);
     text = one .text ∙ ap (λ l. bytesOf e ++ l) (rest .text) ∙ sym (append-assoc (bytesOf e) (bytesOfAll es) (drop end s));
     ends = omega (arith, length-append (bytesOf e) (bytesOfAll es));
@@ -79,13 +83,13 @@ module _ (functions : ℕ) (s : List ℕ) (d : ℕ) where
     few = rest .few;
   }
 
-  then-sound : (left at n : ℕ) (one : Reading) (others : ℕ → ℕ → Readings) → Sound functions s d at n one → Others left others
-      → SoundAll functions s d (suc left) at n (andThen one others)
-  then-sound left at n (refused fault) others k rest = tt
+  then-sound : (left at n : ℕ) (one : Reading Tree) (others : ℕ → ℕ → Reading Trees) → Sound functions s d at n one → Others left others
+      → SoundAll functions s d (suc left) at n (followed one others)
+  then-sound left at n (refused number place) others k rest = tt
   then-sound left at n (done e next m) others k rest =
       in-front-sound left at n e next m (others next m) k (rest next m (k .inside) (k .few))
 
-  args-sound : (node : ℕ → ℕ → Reading) → Nodes node → (left : ℕ) → Others left (argsAt node left)
+  args-sound : (node : ℕ → ℕ → Reading Tree) → Nodes node → (left : ℕ) → Others left (argsAt node left)
   unfolding argsAt count bytesOf nodes levels Known
   args-sound node k zero at n here few = record {
     many = refl;
@@ -103,8 +107,8 @@ module _ (functions : ℕ) (s : List ℕ) (d : ℕ) where
     leaf-sound : byteAt s at ≡ leafTag → Sound functions s (suc d) at n (leafAt s at n)
     unfolding leafAt bytesOf nodes levels Known
     leaf-sound tag =
-        demanded functions s (suc d) at n (present s (at + 1)) _ _ λ p.
-        demanded functions s (suc d) at n (leb (byteAt s (at + 1)) lastLeaf) _ _ λ k.
+        demanded functions s (suc d) at n (present s (at + 1)) _ _ _ λ p.
+        demanded functions s (suc d) at n (leb (byteAt s (at + 1)) lastLeaf) _ _ _ λ k.
         let h : at + 1 < length s = ltb-true _ _ p in
         record {
           text = head-at s at (at + 1) here refl ∙ ap₂ _∷_ tag (head-at s (at + 1) (at + 2) h (omega arith));
@@ -116,12 +120,12 @@ module _ (functions : ℕ) (s : List ℕ) (d : ℕ) where
           few = omega arith;
         }
 
-    call-of-sound : byteAt s at ≡ callTag → byteAt s (at + 1) < functions → at + 2 < length s → (args : Readings)
+    call-of-sound : byteAt s at ≡ callTag → byteAt s (at + 1) < functions → at + 2 < length s → (args : Reading Trees)
         → SoundAll functions s d (byteAt s (at + 2)) (at + 3) (n + 1) args
-        → Sound functions s (suc d) at n (callNode (byteAt s (at + 1)) args)
+        → Sound functions s (suc d) at n (andThen args (λ es. done (call (byteAt s (at + 1)) es)))
     unfolding bytesOf nodes levels Known
-    call-of-sound tag known h (stopped fault) args = tt
-    call-of-sound tag known h (allDone es next m) args =
+    call-of-sound tag known h (refused number place) args = tt
+    call-of-sound tag known h (done es next m) args =
         let number = head-at s (at + 2) (at + 3) h (omega arith) ∙ ap₂ _∷_ (sym (args .many)) (args .text) in
         let function = head-at s (at + 1) (at + 2) (omega arith) (omega arith) ∙ ap (λ l. byteAt s (at + 1) ∷ l) number in
         record {
@@ -134,18 +138,18 @@ module _ (functions : ℕ) (s : List ℕ) (d : ℕ) where
           few = args .few;
         }
 
-    call-sound : (node : ℕ → ℕ → Reading) → Nodes node → byteAt s at ≡ callTag
+    call-sound : (node : ℕ → ℕ → Reading Tree) → Nodes node → byteAt s at ≡ callTag
         → Sound functions s (suc d) at n (callAt functions s node at n)
     unfolding callAt
     call-sound node k tag =
-        demanded functions s (suc d) at n (present s (at + 1)) _ _ λ _.
-        demanded functions s (suc d) at n (ltb (byteAt s (at + 1)) functions) _ _ λ f.
-        demanded functions s (suc d) at n (present s (at + 2)) _ _ λ p.
+        demanded functions s (suc d) at n (present s (at + 1)) _ _ _ λ _.
+        demanded functions s (suc d) at n (ltb (byteAt s (at + 1)) functions) _ _ _ λ f.
+        demanded functions s (suc d) at n (present s (at + 2)) _ _ _ λ p.
         let h : at + 2 < length s = ltb-true _ _ p in
         call-of-sound tag (ltb-true _ _ f) h (argsAt node (byteAt s (at + 2)) (at + 3) (n + 1))
         (args-sound node k (byteAt s (at + 2)) (at + 3) (n + 1) (omega arith) (omega arith))
 
-    tagged-sound : (node : ℕ → ℕ → Reading) → Nodes node → Sound functions s (suc d) at n (taggedAt functions s node at n)
+    tagged-sound : (node : ℕ → ℕ → Reading Tree) → Nodes node → Sound functions s (suc d) at n (taggedAt functions s node at n)
     unfolding taggedAt
     tagged-sound node k =
         either-way functions s (suc d) at n (eqb (byteAt s at) leafTag) _ _
@@ -157,8 +161,8 @@ module _ (functions : ℕ) (s : List ℕ) (d : ℕ) where
 module _ (functions : ℕ) (s : List ℕ) where
   pub node-sound : (d at n : ℕ) → Sound functions s d at n (nodeAt functions s d at n)
   unfolding nodeAt
-  node-sound zero at n = demanded functions s zero at n (present s at) _ _ (λ _. tt)
+  node-sound zero at n = demanded functions s zero at n (present s at) _ _ _ (λ _. tt)
   node-sound (suc d) at n =
-      demanded functions s (suc d) at n (present s at) _ _ λ p.
-      demanded functions s (suc d) at n (ltb n mostNodes) _ _ λ f.
+      demanded functions s (suc d) at n (present s at) _ _ _ λ p.
+      demanded functions s (suc d) at n (ltb n mostNodes) _ _ _ λ f.
       tagged-sound functions s d at n (ltb-true _ _ p) (ltb-true _ _ f) (nodeAt functions s d) (node-sound d)

@@ -1,4 +1,6 @@
 -- What the contracts and theorems of this crate say: expressions and their reading.
 pub mod Tree
 pub mod Reading
-pub mod FirstPass
+pub mod ReadPaper
+pub mod private
+pub mod claims

@@ -9,8 +9,9 @@ ghost use mathlib.Core.Path.{_≡_};
 ghost use Prim.Native.Nat.{_<_};
 ghost use lib.ListN.{length};
 ghost use Rattle.expressions.specs.Tree.{mostNodes};
-ghost use Rattle.expressions.specs.Reading.{leafAt, argsAt, nodeAt, expressionOf};
-ghost use Rattle.expressions.specs.FirstPass.{levelsLeft, nodeStep, argumentsStep, readOf};
+ghost use Rattle.expressions.specs.Reading.{leafAt, argsAt, nodeAt, expressionOf, readOf};
+ghost use Rattle.expressions.specs.ReadPaper.{readPaper};
+ghost use Rattle.expressions.specs.private.Step.{stepPaper, stepOf, levelsLeft};
 use scalars::Refusal;
 
 // An expression has at most so many nodes.
@@ -44,7 +45,7 @@ enum Step {
 // Reads a whole expression of calls to so many functions: its number of nodes, or the first fault from front to back. Bytes left over
 // behind the root are the last fault that is looked for.
 pub fn read_expression(bytes: &[u8], functions: u8) -> Read
-    ensures { λ r. ⌜ r ≡ readOf (expressionOf functions (now (bytes .entry))) ⌝ }
+    ensures { λ r. ⌜ readPaper r ≡ readOf (expressionOf functions (now (bytes .entry))) ⌝ }
 {
     let root = read_node(bytes, 0, 0, 1, functions);
     match root {
@@ -60,7 +61,7 @@ pub fn read_expression(bytes: &[u8], functions: u8) -> Read
 
 // Reads the node at `at`, which has `nodes` nodes before it and stands at the depth `depth`.
 fn read_node(bytes: &[u8], at: usize, nodes: usize, depth: usize, functions: u8) -> Step
-    ensures { λ r. ⌜ r ≡ nodeStep (nodeAt functions (now (bytes .entry)) (levelsLeft depth) at nodes) ⌝ }
+    ensures { λ r. ⌜ stepPaper r ≡ stepOf (nodeAt functions (now (bytes .entry)) (levelsLeft depth) at nodes) ⌝ }
 {
     if bytes.len() <= at {
         return Step::Fault(Refusal::IllFormed(at));
@@ -102,7 +103,7 @@ fn read_arguments(
     depth: usize,
     functions: u8,
 ) -> Step
-    ensures { λ r. ⌜ r ≡ argumentsStep (argsAt (nodeAt functions (now (bytes .entry)) (levelsLeft depth)) left at nodes) ⌝ }
+    ensures { λ r. ⌜ stepPaper r ≡ stepOf (argsAt (nodeAt functions (now (bytes .entry)) (levelsLeft depth)) left at nodes) ⌝ }
 {
     if left == 0 {
         return Step::Past(at, nodes);
@@ -117,7 +118,7 @@ fn read_arguments(
 // Reads the leaf whose tag is at `at`.
 fn read_leaf(bytes: &[u8], at: usize, nodes: usize) -> Step
     requires { ⌜ (at < length (now bytes)) × (nodes < mostNodes) ⌝ }
-    ensures { λ r. ⌜ r ≡ nodeStep (leafAt (now (bytes .entry)) at nodes) ⌝ }
+    ensures { λ r. ⌜ stepPaper r ≡ stepOf (leafAt (now (bytes .entry)) at nodes) ⌝ }
 {
     let code = at + 1;
     if bytes.len() <= code {

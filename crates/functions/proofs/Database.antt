@@ -16,16 +16,20 @@ use Rattle.scalars.specs.Domain.{value?, known?}
 use Rattle.rules.specs.Signature.{Signature}
 use Rattle.rules.specs.Verdict.{longest}
 use Rattle.domain.specs.TypeCode.{predeclaredCode}
+use Rattle.regular.specs.SetPaper.{noSet}
 use Rattle.regular.specs.Regular.{regularRules, codesOf, concludedOf, allConclude}
 use Rattle.listed.specs.Sequences.{floatScalars, concreteFloatScalars, concreteIntScalars, vectorSizes, vector, matrix, scalarOrVecn}
-use Rattle.rules.specs.Rule.{mostArguments, short?}
+use Rattle.rules.specs.Rule.{mostArguments}
+use Rattle.rules.proofs.Records.{short?}
 use Rattle.listed.specs.ListedRules.{listedRules}
-use Rattle.functions.specs.Functions.{functionCount, functionSets, functionSetOf, rulesIn, listingOf, ruleIn, ruleAt, Built}
+use Rattle.functions.specs.Functions.{functionCount, functionSets, functionSetOf, setOfFunction, rulesIn, listingOf, ruleIn, ruleAt}
+use Rattle.functions.specs.FunctionPaper.{functionPaper}
+use Rattle.functions.specs.private.Built.{Built}
 use Rattle.functions.specs.declared.mathfunction.FunctionSet.{FunctionSet}
 use Rattle.functions.specs.declared.mathfunction.FunctionSet.the-variants as set
-use Rattle.scalars.specs.declared.refusal.Refusal.the-variants.{Unknown}
+use Rattle.scalars.specs.Paper.{refusal}
+use Rattle.rules.specs.RulePaper.{noRule}
 use Rattle.regular.specs.declared.regular.Regular.{Regular}
-use Rattle.rules.specs.declared.rule.RuleAnswer.the-variants.{Refused}
 use Rattle.scalars.proofs.Prefixes.{every-at, both-true}
 use Rattle.listed.proofs.Runs.{run-at}
 
@@ -39,6 +43,14 @@ sets-from k n e l h = run-at set.Unknown functionSets k n e l h
 pub no-function : {f : ℕ} → functionCount ≤ f → functionSetOf f ≡ set.Unknown
 unfolding functionSetOf functionSets
 no-function h = List·getD-eq-default functionSets set.Unknown h
+
+pub set-of : (f : ℕ) → functionPaper (functionSetOf f) ≡ setOfFunction f
+unfolding setOfFunction
+set-of f = go (ltb f functionCount) refl
+  where
+    go : (b : Bool) → ltb f functionCount ≡ b → functionPaper (functionSetOf f) ≡ choose b (functionPaper (functionSetOf f)) (refusal 7 0 (0 ∷ noSet))
+    go true h = refl
+    go false h = ap functionPaper (no-function (ltb-false f functionCount h))
 
 counted : length functionSets ≡ functionCount
 unfolding functionSets
@@ -147,12 +159,12 @@ regular-built f {r} e =
 
 -- ---- the rule at an index
 
-abbrev function? : FunctionSet → Bool
+abbrev pub function? : FunctionSet → Bool
 function? (set.Regular r) = true
 function? (set.List l) = true
 function? set.Unknown = false
 
-number-known : (f : ℕ) → ltb f functionCount ≡ function? (functionSetOf f)
+pub number-known : (f : ℕ) → ltb f functionCount ≡ function? (functionSetOf f)
 unfolding functionSets
 number-known f = go (ltb f functionCount) refl
   where
@@ -160,11 +172,11 @@ number-known f = go (ltb f functionCount) refl
     go true h = sym (each-function function? refl f (ltb-true f functionCount h))
     go false h = sym (ap function? (no-function (ltb-false f functionCount h)))
 
-pub rule-of-set : (f i : ℕ) {s : FunctionSet} → functionSetOf f ≡ s → ruleAt f i ≡ choose (function? s) (ruleIn (rulesIn s) i) (Refused (Unknown 0))
+pub rule-of-set : (f i : ℕ) {s : FunctionSet} → functionSetOf f ≡ s → ruleAt f i ≡ choose (function? s) (ruleIn (rulesIn s) i) (refusal 7 0 noRule)
 unfolding ruleAt listingOf
 rule-of-set f i e =
-    ap (λ (b : Bool). choose b (ruleIn (rulesIn (functionSetOf f)) i) (Refused (Unknown 0))) (number-known f)
-    ∙ ap (λ (s : FunctionSet). choose (function? s) (ruleIn (rulesIn s) i) (Refused (Unknown 0))) e
+    ap (λ (b : Bool). choose b (ruleIn (rulesIn (functionSetOf f)) i) (refusal 7 0 noRule)) (number-known f)
+    ∙ ap (λ (s : FunctionSet). choose (function? s) (ruleIn (rulesIn s) i) (refusal 7 0 noRule)) e
 
 -- ---- sizes: Min has 44 rules, Mix 32 of which 28 are distinct, Transpose 36
 

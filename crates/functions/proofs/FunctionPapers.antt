@@ -1,22 +1,23 @@
 -- The paper's numbers determine the set of a function: two answers with the same number, place and values are equal. Shown by reading
 -- the answer back. Assumes nothing.
-use mathlib.Core.Path.{_≡_, refl, ap}
+use mathlib.Core.Path.{_≡_, refl, sym, ap, _∙_}
 use mathlib.Core.List as L
-use mathlib.Core.List.{[], _∷_}
 use Prim.Native.Nat.{ℕ}
 use lib.Dec.{eqb}
 use lib.ListN.{getD}
 use Rattle.scalars.specs.Mask.{choose}
 use Rattle.scalars.specs.declared.refusal.Refusal.{Refusal}
-use Rattle.scalars.specs.declared.refusal.Refusal.the-variants as refusal
-use Rattle.scalars.proofs.Papers.{read, reads-refused, one-to-one}
+use Rattle.scalars.proofs.Papers.{read, one-to-one}
 use Rattle.regular.specs.declared.regular.ConclusionRule.{ConclusionRule}
-use Rattle.regular.proofs.SetPapers.{conclusionOf, conclusion-back}
+use Rattle.regular.specs.SetPaper.{conclusionOf}
+use Rattle.regular.proofs.SetPapers.{conclusion-back}
 use Rattle.functions.specs.declared.mathfunction.FunctionSet.{FunctionSet}
 use Rattle.functions.specs.declared.mathfunction.FunctionSet.the-variants.{Regular, List, Unknown}
 use Rattle.listed.specs.declared.listed_rules.Listed.{Listed}
 use Rattle.listed.specs.declared.listed_rules.Listed.the-variants.{Ldexp, Outer, Refract, Mix, Transpose, ExtractBits, InsertBits}
 use Rattle.functions.specs.FunctionPaper.{listedNumber, functionPaper}
+use Rattle.functions.specs.Functions.{functionSetOf, setOfFunction}
+use Rattle.functions.proofs.Database.{set-of}
 
 abbrev listedOf : ℕ → Listed
 listedOf n =
@@ -58,7 +59,11 @@ unfolding read
 function-back (Regular r) =
     ap (λ (k : ConclusionRule). regularIn (r .arity) (r .constructors .0) (r .scalars .0) k) (conclusion-back (r .conclude))
 function-back (List l) = ap List (listed-back l)
-function-back Unknown = reads-refused setIn unknown (refusal.Unknown 0) (255 ∷ 255 ∷ 255 ∷ 255 ∷ 255 ∷ [])
+function-back Unknown = refl
 
 pub function-one : (a b : FunctionSet) → functionPaper a ≡ functionPaper b → a ≡ b
 function-one = one-to-one functionPaper (read setIn unknown) function-back
+
+-- what `function_set` answers is the set of the function
+pub set-told : (f : ℕ) (a : FunctionSet) {s : FunctionSet} → functionPaper a ≡ setOfFunction f → a ≡ s → functionSetOf f ≡ s
+set-told f a e h = sym (function-one a (functionSetOf f) (e ∙ sym (set-of f))) ∙ h

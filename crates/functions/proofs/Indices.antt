@@ -11,23 +11,22 @@ use lib.Seq.{getD-append-add}
 use Rattle.scalars.specs.Mask.{every}
 use Rattle.rules.specs.Signature.{Signature}
 use Rattle.rules.specs.Rule.{blankRule, ruleOf}
-use Rattle.regular.specs.Regular.{pairs, codesOf, regularRules, signatureFor, ruleFrom, ruleFor, concludedOf, concluded?, codeIn, allConclude}
+use Rattle.regular.specs.Regular.{pairs, codesOf, regularRules, signatureFor, ruleFrom, ruleFor, concludedOf, concluded?, allConclude}
 use Rattle.functions.specs.Functions.{ruleIn}
-use Rattle.scalars.specs.declared.refusal.Refusal.the-variants.{Unknown}
+use Rattle.scalars.specs.Paper.{Paper, accepted, refusal, value}
+use Rattle.rules.specs.RulePaper.{ruleValues, noRule}
+use Rattle.rules.specs.declared.rule.Rule as declared
 use Rattle.regular.specs.declared.regular.Regular.{Regular}
-use Rattle.rules.specs.declared.rule.RuleAnswer.the-variants.{Rule, Refused}
-use Rattle.domain.specs.declared.type_code.CodeAnswer.{CodeAnswer}
-use Rattle.domain.specs.declared.type_code.CodeAnswer.the-variants as code
 use Rattle.scalars.proofs.Prefixes.{map-at, both-true}
 
 -- ---- any listing
 
-pub rule-here : (rs : List Signature) (i : ℕ) → i < length rs → ruleIn rs i ≡ Rule (getD (map ruleOf rs) i blankRule)
+pub rule-here : (rs : List Signature) (i : ℕ) → i < length rs → ruleIn rs i ≡ accepted (ruleValues (getD (map ruleOf rs) i blankRule))
 rule-here [] i h = absurd (not-suc-le-zero h)
 rule-here (r ∷ rs) zero h = refl
 rule-here (r ∷ rs) (suc i) h = rule-here rs i (le-of-suc-le-suc h)
 
-pub rule-past : (rs : List Signature) (i : ℕ) → length rs ≤ i → ruleIn rs i ≡ Refused (Unknown 1)
+pub rule-past : (rs : List Signature) (i : ℕ) → length rs ≤ i → ruleIn rs i ≡ refusal 7 1 noRule
 rule-past [] i h = refl
 rule-past (r ∷ rs) zero h = absurd (not-suc-le-zero h)
 rule-past (r ∷ rs) (suc i) h = rule-past rs i (le-of-suc-le-suc h)
@@ -54,10 +53,10 @@ every-getD p (t ∷ ts) zero h e = both-true (p t) (every p ts) e .0
 every-getD p (t ∷ ts) (suc i) h e = every-getD p ts i (le-of-suc-le-suc h) (both-true (p t) (every p ts) e .1)
 
 -- a rule that has a conclusion is the listing's
-concluded-rule : (n t : ℕ) (a : CodeAnswer) → concluded? a ≡ true
-    → ruleFrom n t a ≡ Rule (ruleOf (record { arguments = replicate n t; result = codeIn a }))
-concluded-rule n t (code.Code c) e = refl
-concluded-rule n t (code.Refused why) e = let z : _≡_ {A = ℕ} 0 1 = cc in absurd (omega arith)
+concluded-rule : (n t : ℕ) (a : Paper) → concluded? a ≡ true
+    → ruleFrom n t a ≡ accepted (ruleValues (ruleOf (record { arguments = replicate n t; result = value 0 a })))
+concluded-rule n t (accepted vs) e = refl
+concluded-rule n t (refusal m p vs) e = let z : _≡_ {A = ℕ} 0 1 = cc in absurd (omega arith)
 
 -- the rule of the type at an index is the rule at that index
 pub regular-here : (r : Regular) (i : ℕ) → allConclude r ≡ true → i < length (codesOf r) → ruleFor r (getD (codesOf r) i 0) ≡ ruleIn (regularRules r) i
@@ -66,13 +65,13 @@ regular-here r i e h =
     concluded-rule (r .arity) (getD (codesOf r) i 0) (concludedOf (r .conclude) (getD (codesOf r) i 0))
     (every-getD (λ t. concluded? (concludedOf (r .conclude) t)) (codesOf r) i h e)
     ∙ sym (rule-here (map (signatureFor r) (codesOf r)) i (subst (λ (n : ℕ). i < n) (sym (length-map (codesOf r) (signatureFor r))) h)
-    ∙ ap Rule (mapped (codesOf r) i h))
+    ∙ ap (λ (x : declared.Rule). accepted (ruleValues x)) (mapped (codesOf r) i h))
   where
     mapped : (ts : List ℕ) (i : ℕ) → i < length ts → getD (map ruleOf (map (signatureFor r) ts)) i blankRule ≡ ruleOf (signatureFor r (getD ts i 0))
     mapped [] i h = absurd (not-suc-le-zero h)
     mapped (t ∷ ts) zero h = refl
     mapped (t ∷ ts) (suc i) h = mapped ts i (le-of-suc-le-suc h)
 
-pub regular-past : (r : Regular) (i : ℕ) → length (codesOf r) ≤ i → ruleIn (regularRules r) i ≡ Refused (Unknown 1)
+pub regular-past : (r : Regular) (i : ℕ) → length (codesOf r) ≤ i → ruleIn (regularRules r) i ≡ refusal 7 1 noRule
 unfolding regularRules
 regular-past r i h = rule-past (map (signatureFor r) (codesOf r)) i (subst (λ (n : ℕ). n ≤ i) (sym (length-map (codesOf r) (signatureFor r))) h)

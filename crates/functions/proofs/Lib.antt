@@ -3,3 +3,4 @@ pub mod Indices
 pub mod Ranks
 pub mod Database
 pub mod FunctionPapers
+pub mod RuleTotals

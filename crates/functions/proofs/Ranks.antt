@@ -12,10 +12,11 @@ use lib.Dec.{ltb, lit≤}
 use lib.ListN.{length, getD}
 use Rattle.scalars.specs.Mask.{consIf, odd, select, countFrom, bits}
 use Rattle.regular.specs.Regular.{pairs, codesOf, regularRules, regularRule}
-use Rattle.functions.specs.Functions.{Built, ruleIn}
-use Rattle.scalars.specs.declared.refusal.Refusal.the-variants.{Unknown}
+use Rattle.functions.specs.Functions.{ruleIn}
+use Rattle.functions.specs.private.Built.{Built}
+use Rattle.scalars.specs.Paper.{refusal}
+use Rattle.rules.specs.RulePaper.{noRule}
 use Rattle.regular.specs.declared.regular.Regular.{Regular}
-use Rattle.rules.specs.declared.rule.RuleAnswer.the-variants.{Refused}
 use Rattle.scalars.proofs.Bits.{bits-first, bits-none, bits-within, bits-count, bits-length}
 use Rattle.regular.proofs.Regulars.{codes-count, known-rule}
 use Rattle.functions.proofs.Indices.{pairs-at, regular-here, regular-past}
@@ -101,7 +102,7 @@ module _ (r : Regular) (b : Built r) (i : ℕ) where
   pub scalar-rank : i % ones (r .scalars .0) < length (bits 16 (r .scalars .0))
   scalar-rank = omega (arith, mod-lt i some-scalar, scalars, ap length wide-scalars)
 
-  pub rank-past : ones (r .constructors .0) ≤ i / ones (r .scalars .0) → Refused (Unknown 1) ≡ ruleIn (regularRules r) i
+  pub rank-past : ones (r .constructors .0) ≤ i / ones (r .scalars .0) → refusal 7 1 noRule ≡ ruleIn (regularRules r) i
   rank-past h =
       sym (regular-past r i (omega (arith, listed, split, mul-le-mul h (le-refl (ones (r .scalars .0))))))
 

@@ -1,10 +1,9 @@
 -- The paper's number, place and values for the set of a function: 0 and a Regular set's parts, or 1 and which of the Lists it is. An
--- unknown function is refusal 7 at 0.
+-- unknown function is refusal 7 at 0, with the empty Regular set.
 use mathlib.Core.List.{[], _∷_}
 use Prim.Native.Nat.{ℕ}
-use Rattle.scalars.specs.Paper.{Paper, accepted, refused}
-use Rattle.scalars.specs.declared.refusal.Refusal.the-variants as refusal
-use Rattle.regular.specs.SetPaper.{regularValues}
+use Rattle.scalars.specs.Paper.{Paper, accepted, refusal}
+use Rattle.regular.specs.SetPaper.{regularValues, noSet}
 use Rattle.functions.specs.declared.mathfunction.FunctionSet.{FunctionSet}
 use Rattle.functions.specs.declared.mathfunction.FunctionSet.the-variants.{Regular, List, Unknown}
 use Rattle.listed.specs.declared.listed_rules.Listed.{Listed}
@@ -23,4 +22,4 @@ listedNumber InsertBits = 6
 abbrev pub functionPaper : FunctionSet → Paper
 functionPaper (Regular r) = accepted (0 ∷ regularValues r)
 functionPaper (List l) = accepted (1 ∷ listedNumber l ∷ 255 ∷ 255 ∷ 255 ∷ [])
-functionPaper Unknown = refused (refusal.Unknown 0) (255 ∷ 255 ∷ 255 ∷ 255 ∷ 255 ∷ [])
+functionPaper Unknown = refusal 7 0 (0 ∷ noSet)

@@ -1,40 +1,35 @@
 -- The 79 functions of `mathfunction.rs`, in its order and by its words: each function's overload set, and the full listing of its rules.
-use mathlib.Core.Path.{_≡_}
-use mathlib.Core.Bool.{Bool, true}
+use mathlib.Core.Bool.{Bool}
 use mathlib.Core.List as L
 use mathlib.Core.List.{[], _∷_, _++_}
-use Prim.Native.Nat.{ℕ, zero, suc, _<_}
+use Prim.Native.Nat.{ℕ, zero, suc}
 use lib.Dec.{eqb, ltb}
 use lib.ListN.{getD, replicate}
-use Rattle.scalars.specs.Mask.{choose, either, filter, maskOf}
-use Rattle.scalars.specs.Domain.{constructors, concreteInteger?, concreteFloat?, float?, numeric?}
+use Rattle.scalars.specs.Mask.{choose, either}
+use Rattle.scalars.specs.Domain.{concreteInteger?, concreteFloat?, float?, numeric?}
 use Rattle.rules.specs.Signature.{Signature}
-use Rattle.scalars.specs.Scalar.{setOf}
-use Rattle.domain.specs.Constructor.{vector?}
+use Rattle.scalars.specs.Scalar.{scalarsThat}
+use Rattle.domain.specs.Constructor.{vector?, constructorsThat}
 use Rattle.rules.specs.Rule.{ruleOf}
-use Rattle.regular.specs.Regular.{Known, regularRules, allConclude}
+use Rattle.regular.specs.SetPaper.{noSet}
+use Rattle.regular.specs.Regular.{regularOf, regularRules}
 use Rattle.listed.specs.ListedRules.{listedRules}
-use Rattle.scalars.specs.declared.refusal.Refusal.the-variants.{Unknown}
-use Rattle.domain.specs.declared.constructor_set.ConstructorSet.{ConstructorSet}
+use Rattle.scalars.specs.Paper.{Paper, accepted, refusal}
+use Rattle.rules.specs.RulePaper.{ruleValues, noRule}
+use Rattle.functions.specs.FunctionPaper.{functionPaper}
 use Rattle.functions.specs.declared.mathfunction.FunctionSet.{FunctionSet}
 use Rattle.functions.specs.declared.mathfunction.FunctionSet.the-variants as set
 use Rattle.listed.specs.declared.listed_rules.Listed.the-variants.{Ldexp, Outer, Refract, Mix, Transpose, ExtractBits, InsertBits}
 use Rattle.regular.specs.declared.regular.ConclusionRule.{ConclusionRule}
 use Rattle.regular.specs.declared.regular.ConclusionRule.the-variants as to
-use Rattle.regular.specs.declared.regular.Regular.{Regular}
-use Rattle.rules.specs.declared.rule.RuleAnswer.{RuleAnswer}
-use Rattle.rules.specs.declared.rule.RuleAnswer.the-variants as answer
 
 abbrev pub functionCount : ℕ
 functionCount = 79
 
 -- ---- Regular sets: the arity, the constructors and the scalars that pass, and the conclusion
 
-abbrev pub constructorsThat : (ℕ → Bool) → ConstructorSet
-constructorsThat p = record { 0 = maskOf (filter p constructors) }
-
 abbrev pub regular : ℕ → (ℕ → Bool) → (ℕ → Bool) → ConclusionRule → FunctionSet
-regular n ks ss c = set.Regular (record { arity = n; constructors = constructorsThat ks; scalars = setOf ss; conclude = c })
+regular n ks ss c = set.Regular (regularOf n (constructorsThat ks) (scalarsThat ss) c)
 
 -- one constructor, or one scalar, alone
 abbrev pub scalar? : ℕ → Bool
@@ -104,6 +99,10 @@ functionSets =
 unfoldable pub functionSetOf : ℕ → FunctionSet
 functionSetOf f = getD functionSets f set.Unknown
 
+-- what is answered of a function's number: its set; of an unknown function, refusal 7 at place 0 and the empty Regular set
+unfoldable pub setOfFunction : ℕ → Paper
+setOfFunction f = choose (ltb f functionCount) (functionPaper (functionSetOf f)) (refusal 7 0 (0 ∷ noSet))
+
 -- ---- full listings
 
 abbrev pub rulesIn : FunctionSet → L.List Signature
@@ -115,17 +114,11 @@ unfoldable pub listingOf : ℕ → L.List Signature
 listingOf f = rulesIn (functionSetOf f)
 
 -- the rule at an index; at an index behind the last one, refusal 7 at place 1
-abbrev pub ruleIn : L.List Signature → ℕ → RuleAnswer
-ruleIn [] i = answer.Refused (Unknown 1)
-ruleIn (r ∷ rs) zero = answer.Rule (ruleOf r)
+abbrev pub ruleIn : L.List Signature → ℕ → Paper
+ruleIn [] i = refusal 7 1 noRule
+ruleIn (r ∷ rs) zero = accepted (ruleValues (ruleOf r))
 ruleIn (r ∷ rs) (suc i) = ruleIn rs i
 
 -- the rule at an index of a function's full listing; of an unknown function, refusal 7 at place 0
-unfoldable pub ruleAt : ℕ → ℕ → RuleAnswer
-ruleAt f i = choose (ltb f functionCount) (ruleIn (listingOf f) i) (answer.Refused (Unknown 0))
-
--- what each function's Regular set is: known, not without a scalar, and each rule has a conclusion, so that refusal 13 never arises
-pub record Built (r : Regular) : Type 0 where
-  pub known : Known r
-  pub some : 0 < r .scalars .0
-  pub concludes : allConclude r ≡ true
+unfoldable pub ruleAt : ℕ → ℕ → Paper
+ruleAt f i = choose (ltb f functionCount) (ruleIn (listingOf f) i) (refusal 7 0 noRule)

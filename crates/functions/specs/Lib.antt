@@ -1,3 +1,5 @@
--- What a reader must believe of this crate.
-pub mod Functions
+-- What a reader must believe of this crate; `private` holds what the contracts of the crate's own functions say.
 pub mod FunctionPaper
+pub mod Functions
+pub mod RuleTotal
+pub mod private

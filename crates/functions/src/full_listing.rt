@@ -7,8 +7,10 @@ ghost use mathlib.Core.Path.{_≡_};
 ghost use Prim.Native.Nat.{_<_};
 ghost use lib.ListN.{length, getD};
 ghost use Rattle.scalars.specs.Mask.{bits};
+ghost use Rattle.rules.specs.RulePaper.{rulePaper};
 ghost use Rattle.regular.specs.Regular.{regularRules};
-ghost use Rattle.functions.specs.Functions.{Built, ruleIn, ruleAt};
+ghost use Rattle.functions.specs.Functions.{ruleIn, ruleAt};
+ghost use Rattle.functions.specs.private.Built.{Built};
 use crate::mathfunction::FunctionSet;
 use crate::mathfunction::function_set;
 use listed::listed_rule;
@@ -19,7 +21,7 @@ use scalars::Refusal;
 
 // The rule at an index of the function's full listing. Refused 7, at 0 for an unknown function, at 1 for an unknown index.
 pub fn rule_at(function: u8, index: u8) -> RuleAnswer
-    ensures { λ r. ⌜ r ≡ ruleAt function index ⌝ }
+    ensures { λ r. ⌜ rulePaper r ≡ ruleAt function index ⌝ }
 {
     match function_set(function) {
         FunctionSet::Regular(set) => regular_rule(set, index),
@@ -36,7 +38,7 @@ pub fn rule_at(function: u8, index: u8) -> RuleAnswer
 // The rule at an index of a Regular set's listing: each constructor in turn, over each scalar in turn.
 fn regular_rule(set: Regular, index: u8) -> RuleAnswer
     requires { ⌜ Built set ⌝ }
-    ensures { λ r. ⌜ r ≡ ruleIn (regularRules set) index ⌝ }
+    ensures { λ r. ⌜ rulePaper r ≡ ruleIn (regularRules set) index ⌝ }
 {
     let constructors = set.constructors.0;
     let scalars = set.scalars.0;

@@ -5,7 +5,8 @@
 
 ghost use mathlib.Core.Path.{_≡_};
 ghost use Prim.Native.Nat.{_<_, _≤_};
-ghost use Rattle.functions.specs.Functions.{functionSetOf};
+ghost use Rattle.functions.specs.FunctionPaper.{functionPaper};
+ghost use Rattle.functions.specs.Functions.{functionSetOf, setOfFunction};
 use domain::ConstructorSet;
 use listed::Listed;
 use regular::ConclusionRule;
@@ -29,7 +30,7 @@ pub enum FunctionSet {
 
 // The overload set of the function.
 pub fn function_set(function: u8) -> FunctionSet
-    ensures { λ r. ⌜ r ≡ functionSetOf function ⌝ }
+    ensures { λ r. ⌜ functionPaper r ≡ setOfFunction function ⌝ }
 {
     match function {
         // Component-wise unary, binary and ternary numeric operations: Abs, Sign; Min, Max; Clamp

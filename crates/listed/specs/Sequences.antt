@@ -1,9 +1,11 @@
 -- The sequences of `utils.rs` and of the type methods: the scalars, sizes and types over which the rules of a List are written, in the
 -- Rust's order, and the codes of vectors and matrices by their sizes.
 use mathlib.Core.List.{List, [], _∷_}
-use Prim.Native.Nat.{ℕ, _+_, _-_, _*_}
+use Prim.Native.Nat.{ℕ}
 use Rattle.scalars.specs.Mask.{filter}
 use Rattle.scalars.specs.Domain.{scalars, float?, concreteFloat?}
+use Rattle.domain.specs.TypeCode.{typeCode}
+use Rattle.domain.specs.Constructor.{vectorNumber, matrixNumber}
 
 -- ABSTRACT_FLOAT, F32, F16, F64
 unfoldable pub floatScalars : List ℕ
@@ -21,13 +23,13 @@ concreteIntScalars = 2 ∷ 5 ∷ 3 ∷ 6 ∷ 4 ∷ 7 ∷ []
 unfoldable pub vectorSizes : List ℕ
 vectorSizes = 2 ∷ 3 ∷ 4 ∷ []
 
--- the vector of n components: VEC2 is constructor 1
+-- the vector of n components
 unfoldable pub vector : ℕ → ℕ → ℕ
-vector n s = (n - 1) * 12 + s
+vector n s = typeCode (vectorNumber n) s
 
--- the matrix of these columns and rows: MAT2X2 is constructor 4, and columns come before rows
+-- the matrix of these columns and rows
 unfoldable pub matrix : ℕ → ℕ → ℕ → ℕ
-matrix columns rows s = (4 + (columns - 2) * 3 + (rows - 2)) * 12 + s
+matrix columns rows s = typeCode (matrixNumber columns rows) s
 
 unfoldable pub scalarOrVecn : ℕ → List ℕ
 scalarOrVecn s = s ∷ vector 2 s ∷ vector 3 s ∷ vector 4 s ∷ []

@@ -10,7 +10,8 @@ use Rattle.scalars.specs.Mask.{select, padded}
 use Rattle.rules.specs.Signature.{Signature}
 use Rattle.lists.specs.Entry.{number}
 use Rattle.rules.specs.Rule.{blankRule, signatureOf, ruleOf}
-use Rattle.lists.specs.List.{held, signatures, listing, entries, cleanList, Valid}
+use Rattle.lists.specs.List.{held, signatures, listing, entries, cleanList}
+use Rattle.lists.specs.private.Tested.{Valid}
 use Rattle.lists.specs.declared.list.List.{List}
 use Rattle.rules.proofs.Records.{records-say}
 use Rattle.lists.proofs.Lists.{signatures-length}

@@ -5,7 +5,7 @@ use mathlib.Core.List.{List, [], _∷_, map}
 use Prim.Native.Nat.{ℕ, zero, suc, _+_, _*_, _/_, _<_}
 use native.Mathlib.Nat.{add-zero, zero-add, add-suc, suc-add, le-of-suc-le-suc, not-suc-le-zero}
 use lib.ListN.{length, getD}
-use Rattle.scalars.specs.Mask.{consIf, both, odd, digit, select, sift, filter}
+use Rattle.scalars.specs.Mask.{consIf, both, odd, digit, select, sift}
 use Rattle.rules.specs.Signature.{Signature}
 use Rattle.lists.specs.Entry.{Entry, number, keep}
 use Rattle.scalars.proofs.Sifts.{select-sift}
@@ -39,12 +39,7 @@ unfolding sift
 sift-number p i [] m = refl
 sift-number p i (r ∷ rs) m = ap (λ (s : ℕ). s * 2 + digit (both (odd m) (p r))) (sift-number p (suc i) rs (m / 2))
 
--- to keep entries is to filter them by their rules
-pub keep-filter : (p : Signature → Bool) (xs : List Entry) → filter (λ (x : Entry). p (x .rule)) xs ≡ keep p xs
-keep-filter p [] = refl
-keep-filter p (x ∷ xs) = ap (consIf (p (x .rule)) x) (keep-filter p xs)
-
 pub select-keep : (p : Signature → Bool) (i : ℕ) (rs : List Signature) (m : ℕ) → select (number i rs) (sift p rs m) ≡ keep p (select (number i rs) m)
 select-keep p i rs m =
     ap (select (number i rs)) (sym (sift-number p i rs m))
-    ∙ select-sift (λ (x : Entry). p (x .rule)) (number i rs) m ∙ keep-filter p (select (number i rs) m)
+    ∙ select-sift (λ (x : Entry). p (x .rule)) (number i rs) m

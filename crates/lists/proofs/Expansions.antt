@@ -14,17 +14,16 @@ use lib.Seq.{take-at, take-all}
 use borrow.Author.Tests.{lt-ltb, le-leb, leb-true}
 use Rattle.scalars.specs.Mask.{choose, both, every, select, padded}
 use Rattle.rules.specs.Signature.{Signature}
-use Rattle.rules.specs.Rule.{blankRule, signatureOf, ruleOf, knownRule, shortRule, short?, typed?}
-use Rattle.lists.specs.List.{mostRules, held, signatures, listing, cleanList, acceptedList, refusedList, verdictOf, kept, listStep, Valid}
+use Rattle.rules.specs.Rule.{blankRule, signatureOf, ruleOf, knownRule, shortRule}
+use Rattle.lists.specs.List.{mostRules, held, signatures, listing, cleanList, acceptedList, noListValues, verdictOf, kept, listStep}
+use Rattle.lists.specs.private.Tested.{Valid}
 use Rattle.rules.specs.Verdict.{onVerdict}
 use Rattle.lists.specs.Expansion.{listOf}
-use Rattle.scalars.specs.declared.answer.Verdict.{Verdict}
-use Rattle.scalars.specs.declared.answer.Verdict.the-variants.{Accepted, Refused}
+use Rattle.scalars.specs.Paper.{Paper, accepted, refusal}
 use Rattle.lists.specs.declared.list.List.{List}
-use Rattle.scalars.specs.declared.refusal.Refusal.the-variants.{TooMany, Unknown}
 use Rattle.rules.specs.declared.rule.Keep.{Keep}
 use Rattle.scalars.proofs.Meets.{select-ones}
-use Rattle.rules.proofs.Records.{record-says}
+use Rattle.rules.proofs.Records.{record-says, short?, typed?}
 use Rattle.scalars.proofs.Filters.{both-left, both-right, both-true}
 use Rattle.lists.proofs.Steps.{kept-valid}
 
@@ -73,7 +72,7 @@ module _ (rs : L.List Signature) (short : every short? rs ≡ true) where
       clean = ap (λ (xs : L.List Signature). record { rules = padded mostRules blankRule (map ruleOf xs); len = length rs; members = 2 ^ length rs - 1 }) signatures-of;
     }
 
-    pub accepted-of : every typed? rs ≡ true → verdictOf (listOf rs) ≡ Accepted
+    pub accepted-of : every typed? rs ≡ true → verdictOf (listOf rs) ≡ accepted []
     unfolding verdictOf
     accepted-of typed =
         let k : every knownRule (held (listOf rs)) ≡ true = ap (every knownRule) (held-of rs) ∙ known-each rs short typed in
@@ -87,12 +86,12 @@ module _ (rs : L.List Signature) (short : every short? rs ≡ true) where
 -- clean, and accepted if it is tested again
 pub record Tested (l : List) : Type 0 where
   pub valid : Valid l
-  pub accepted : verdictOf l ≡ Accepted
+  pub accepted : verdictOf l ≡ accepted []
 
 kept-verdict : (k : Keep) (l : List) → Valid l → verdictOf (kept k l) ≡ verdictOf l
 unfolding verdictOf kept
 kept-verdict k l valid =
-    ap (λ (b : Bool). choose (both (every knownRule (held l)) b) (choose (both (leb (l .len) mostRules) (every shortRule (held l))) Accepted (Refused TooMany)) (Refused (Unknown 0)))
+    ap (λ (b : Bool). choose (both (every knownRule (held l)) b) (choose (both (leb (l .len) mostRules) (every shortRule (held l))) (accepted []) (refusal 3 0 [])) (refusal 7 0 []))
     (lt-ltb _ _ (kept-valid k l valid .within) ∙ sym (lt-ltb _ _ (valid .within)))
 
 pub kept-tested : (k : Keep) (l : List) → Tested l → Tested (kept k l)
@@ -102,5 +101,5 @@ kept-tested k l t = record { valid = kept-valid k l (t .valid); accepted = kept-
 pub step-answer : (k : Keep) (l : List) → Tested l → listStep k l ≡ acceptedList (kept k l)
 unfolding listStep
 step-answer k l t =
-    ap (λ (v : Verdict). onVerdict v (acceptedList (kept k (cleanList l))) refusedList) (t .accepted)
+    ap (λ (v : Paper). onVerdict v (acceptedList (kept k (cleanList l))) noListValues) (t .accepted)
     ∙ ap (λ (x : List). acceptedList (kept k x)) (t .valid .clean)

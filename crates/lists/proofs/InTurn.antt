@@ -8,11 +8,15 @@ use Rattle.scalars.specs.Mask.{both, filter, every}
 use Rattle.rules.specs.Signature.{Signature}
 use Rattle.rules.specs.Rule.{passes}
 use Rattle.lists.specs.List.{listing, kept}
-use Rattle.lists.specs.Agreement.{inTurn}
 use Rattle.lists.specs.declared.list.List as declared
 use Rattle.rules.specs.declared.rule.Keep.{Keep}
 use Rattle.scalars.proofs.Filters.{filter-both, filter-comm, filter-twice, filter-all}
 use Rattle.lists.proofs.Steps.{listing-kept}
+
+-- steps one after the other
+abbrev pub inTurn {ℓ} : {A : Type ℓ} → (Keep → A → A) → List Keep → A → A
+inTurn step [] a = a
+inTurn step (k ∷ ks) a = inTurn step ks (step k a)
 
 -- what each step keeps, steps in turn keep
 pub lasts : {S : Type 0} (P : S → Type 0) (step : Keep → S → S) → ((k : Keep) (s : S) → P s → P (step k s))

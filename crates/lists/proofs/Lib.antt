@@ -1,4 +1,4 @@
--- Laws of Lists and of steps that several proofs use; the theorem of Agreement among them.
+-- Laws of Lists and of steps that several proofs use; the laws of Agreement among them.
 pub mod Entries
 pub mod Lists
 pub mod Steps

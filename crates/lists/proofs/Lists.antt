@@ -15,12 +15,11 @@ use Rattle.rules.specs.Signature.{Signature}
 use Rattle.lists.specs.Entry.{Entry, number}
 use Rattle.rules.specs.Verdict.{longest, countOf, emptyOf}
 use Rattle.rules.specs.Rule.{argumentsOf, signatureOf, ruleOf}
-use Rattle.lists.specs.List.{held, signatures, listing, entries, cleanList, preferredOf, Valid}
+use Rattle.lists.specs.List.{held, signatures, listing, entries, cleanList, preferredOf}
+use Rattle.lists.specs.private.Tested.{Valid}
 use Rattle.lists.specs.declared.list.List.{List}
-use Rattle.lists.specs.declared.list.ChosenAnswer.the-variants as chosen
-use Rattle.scalars.specs.declared.answer.CountAnswer.the-variants as count
-use Rattle.scalars.specs.declared.answer.Test.the-variants as test
-use Rattle.scalars.specs.declared.refusal.Refusal.the-variants.{EmptySet}
+use Rattle.scalars.specs.Paper.{accepted, refusal}
+use Rattle.rules.specs.RulePaper.{ruleValues}
 use Rattle.rules.specs.declared.rule.Rule.{Rule}
 use Rattle.scalars.proofs.Masks.{turn, gain, select-length, select-mod, select-none, sift-mod}
 use Rattle.rules.proofs.Records.{zeroRule, clean-count}
@@ -132,33 +131,34 @@ pub listing-none : (l : List) → l .members ≡ 0 → listing l ≡ []
 unfolding listing
 listing-none l e = none-left l e
 
-pub listing-some : (l : List) → Valid l → 0 < l .members → emptyOf (listing l) ≡ test.No
+pub listing-some : (l : List) → Valid l → 0 < l .members → emptyOf (listing l) ≡ accepted (0 ∷ [])
 unfolding listing
 listing-some l v q = ap emptyOf (member l (l .members) v q (v .within) .members)
 
 -- of any List the members that have a rule say the same: those without are in no listing and pass no test
-module _ (l : List) (long : length (l .rules) ≡ 63) {m : ℕ} (is : m ≡ l .members % 2 ^ min (l .len) 63) where
+module _ (l : List) (long : length (l .rules) ≡ 63) (q : ℕ) {m : ℕ} (is : m ≡ q % 2 ^ min (l .len) 63) where
   pub with-rules-less : m < 2 ^ min (l .len) 63
-  with-rules-less = subst⁻¹ (λ (n : ℕ). n < 2 ^ min (l .len) 63) is (mod-lt (l .members) (pow-pos (min (l .len) 63)))
+  with-rules-less = subst⁻¹ (λ (n : ℕ). n < 2 ^ min (l .len) 63) is (mod-lt q (pow-pos (min (l .len) 63)))
 
-  pub with-rules-sifted : (p : Signature → Bool) → sift p (signatures l) m ≡ sift p (signatures l) (l .members)
+  pub with-rules-sifted : (p : Signature → Bool) → sift p (signatures l) m ≡ sift p (signatures l) q
   with-rules-sifted p =
       ap (sift p (signatures l)) is
-      ∙ subst (λ (k : ℕ). sift p (signatures l) (l .members % 2 ^ k) ≡ sift p (signatures l) (l .members)) (many l long) (sift-mod p (signatures l) (l .members))
+      ∙ subst (λ (k : ℕ). sift p (signatures l) (q % 2 ^ k) ≡ sift p (signatures l) q) (many l long) (sift-mod p (signatures l) q)
 
+module _ (l : List) (long : length (l .rules) ≡ 63) {m : ℕ} (is : m ≡ l .members % 2 ^ min (l .len) 63) where
   pub with-rules-listed : select (signatures l) m ≡ listing l
   unfolding listing
   with-rules-listed =
       ap (select (signatures l)) is
       ∙ subst (λ (k : ℕ). select (signatures l) (l .members % 2 ^ k) ≡ select (signatures l) (l .members)) (many l long) (select-mod (signatures l) (l .members))
 
-  pub counted-none : m ≡ 0 → count.Refused (EmptySet 0) ≡ countOf (listing l)
+  pub counted-none : m ≡ 0 → refusal 1 0 (255 ∷ []) ≡ countOf (listing l)
   counted-none e = sym (ap countOf (sym with-rules-listed ∙ none-left l e))
 
-  pub counted : 0 < m → count.Count (longest (listing l)) ≡ countOf (listing l)
+  pub counted : 0 < m → accepted (longest (listing l) ∷ []) ≡ countOf (listing l)
   counted q =
-      let e = sym with-rules-listed ∙ turned l m long q with-rules-less .members in
-      ap (λ (rs : L.List Signature). count.Count (longest rs)) e ∙ sym (ap countOf e)
+      let e = sym with-rules-listed ∙ turned l m long q (with-rules-less l long (l .members) is) .members in
+      ap (λ (rs : L.List Signature). accepted (longest rs ∷ [])) e ∙ sym (ap countOf e)
 
 -- ---- the members with their indices
 
@@ -186,9 +186,9 @@ entries-first l v q =
     (number-at (signatures l) n d (signatureOf zeroRule) (omega (arith, valid-length l v)) ∙ ap (λ (s : Signature). record { index = n; rule = s }) (rule-says l n i))
 
 pub preferred-first : (l : List) → Valid l → 0 < l .members
-    → chosen.Rule (record { index = trailingZeros 64 (l .members); rule = getD (l .rules) (trailingZeros 64 (l .members)) zeroRule }) ≡ preferredOf (entries l)
+    → accepted (trailingZeros 64 (l .members) ∷ ruleValues (getD (l .rules) (trailingZeros 64 (l .members)) zeroRule)) ≡ preferredOf (entries l)
 preferred-first l v q =
     sym (
     ap preferredOf (entries-first l v q)
-    ∙ ap (λ (r : Rule). chosen.Rule (record { index = trailingZeros 64 (l .members); rule = r })) (member l (l .members) v q (v .within) .clean)
+    ∙ ap (λ (r : Rule). accepted (trailingZeros 64 (l .members) ∷ ruleValues r)) (member l (l .members) v q (v .within) .clean)
     )

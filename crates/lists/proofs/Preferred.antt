@@ -15,21 +15,19 @@ use Rattle.lists.specs.Entry.{Entry}
 use Rattle.rules.specs.Rule.{ruleOf}
 use Rattle.rules.specs.Verdict.{onVerdict}
 use Rattle.lists.specs.List.{listing, entries, preferredOf, verdictOf, listPreferred}
-use Rattle.regular.specs.Regular.{Known, pairs, codesOf, signatureFor, regularRules, emptyRegular, narrowed, concreteSet, concludedOf, concluded?, ruleFrom, ruleFor, allConclude, preferredAmong, regularPreferred}
-use Rattle.lists.specs.Agreement.{stepRegular}
-use Rattle.scalars.specs.declared.answer.Verdict.{Verdict}
-use Rattle.scalars.specs.declared.answer.Verdict.the-variants.{Accepted}
+use Rattle.regular.specs.Regular.{pairs, codesOf, signatureFor, regularRules, emptyRegular, narrowed, concreteSet, concludedOf, concluded?, ruleFrom, ruleFor, allConclude, preferredAmong, regularPreferred}
+use Rattle.regular.specs.private.Tested.{Known}
+use Rattle.scalars.specs.Paper.{Paper, accepted, refusal}
+use Rattle.rules.specs.RulePaper.{ruleValues, noRule}
+use Rattle.lists.specs.ChosenPaper.{noChoice}
 use Rattle.lists.specs.declared.list.List as declared
-use Rattle.lists.specs.declared.list.ChosenAnswer.the-variants as chosen
 use Rattle.regular.specs.declared.regular.Regular.{Regular}
 use Rattle.rules.specs.declared.rule.Keep.{Keep}
 use Rattle.rules.specs.declared.rule.Keep.the-variants.{Argument, Concrete}
-use Rattle.rules.specs.declared.rule.RuleAnswer.the-variants as rule
-use Rattle.domain.specs.declared.type_code.CodeAnswer.{CodeAnswer}
-use Rattle.domain.specs.declared.type_code.CodeAnswer.the-variants as code
 use Rattle.scalars.proofs.Bits.{bits-none}
 use Rattle.scalars.proofs.Filters.{both-left, filter-none}
 use Rattle.lists.proofs.Lists.{entries-rules}
+use Rattle.lists.proofs.SetSteps.{stepRegular}
 use Rattle.regular.proofs.RegularCodes.{shapes, narrowed-constructors}
 use Rattle.regular.proofs.Regulars.{known-accepted}
 
@@ -94,13 +92,13 @@ step-one Concrete r h = h
 
 -- of one constructor
 among-first : (r : Regular) (ks ss : List ℕ) → length ks ≤ 1 → every (λ t. concluded? (concludedOf (r .conclude) t)) (pairs ks ss) ≡ true
-    → (s : Signature) (rest : List Signature) → map (signatureFor r) (pairs ks ss) ≡ s ∷ rest → preferredAmong r ks ss ≡ rule.Rule (ruleOf s)
+    → (s : Signature) (rest : List Signature) → map (signatureFor r) (pairs ks ss) ≡ s ∷ rest → preferredAmong r ks ss ≡ accepted (ruleValues (ruleOf s))
 unfolding ruleFor
 among-first r [] ss h c s rest e = let z : _≡_ {A = ℕ} 0 1 = cc in absurd (omega arith)
 among-first r (k ∷ []) [] h c s rest e = let z : _≡_ {A = ℕ} 0 1 = cc in absurd (omega arith)
 among-first r (k ∷ l ∷ ks) ss h c s rest e = absurd (omega arith)
 among-first r (k ∷ []) (x ∷ ss) h c s rest e =
-    go (concludedOf (r .conclude) t) refl (both-left (concluded? (concludedOf (r .conclude) t)) _ c) ∙ ap (λ (y : Signature). rule.Rule (ruleOf y)) first
+    go (concludedOf (r .conclude) t) refl (both-left (concluded? (concludedOf (r .conclude) t)) _ c) ∙ ap (λ (y : Signature). accepted (ruleValues (ruleOf y))) first
   where
     t : ℕ
     t = k * 12 + x
@@ -108,26 +106,26 @@ among-first r (k ∷ []) (x ∷ ss) h c s rest e =
     first : signatureFor r t ≡ s
     first = cc
 
-    go : (a : CodeAnswer) → concludedOf (r .conclude) t ≡ a → concluded? a ≡ true → ruleFrom (r .arity) t a ≡ rule.Rule (ruleOf (signatureFor r t))
-    go (code.Code n) q o = rw q
-    go (code.Refused why) q o = let z : _≡_ {A = ℕ} 0 1 = cc in absurd (omega arith)
+    go : (a : Paper) → concludedOf (r .conclude) t ≡ a → concluded? a ≡ true → ruleFrom (r .arity) t a ≡ accepted (ruleValues (ruleOf (signatureFor r t)))
+    go (accepted vs) q o = rw q
+    go (refusal n p vs) q o = let z : _≡_ {A = ℕ} 0 1 = cc in absurd (omega arith)
 
 pub regular-first : (r : Regular) → Known r → allConclude r ≡ true → OneShape r
-    → (s : Signature) (rest : List Signature) → regularRules r ≡ s ∷ rest → regularPreferred r ≡ rule.Rule (ruleOf s)
+    → (s : Signature) (rest : List Signature) → regularRules r ≡ s ∷ rest → regularPreferred r ≡ accepted (ruleValues (ruleOf s))
 unfolding regularPreferred allConclude codesOf regularRules
 regular-first r known c one s rest e =
-    ap (λ (v : Verdict). onVerdict v (preferredAmong r (bits 13 (r .constructors .0)) (bits 12 (r .scalars .0))) rule.Refused) (known-accepted r known)
+    ap (λ (v : Paper). onVerdict v (preferredAmong r (bits 13 (r .constructors .0)) (bits 12 (r .scalars .0))) noRule) (known-accepted r known)
     ∙ among-first r (bits 13 (r .constructors .0)) (bits 12 (r .scalars .0)) one c s rest e
 
 -- of a List, with some index
-pub list-first : (l : declared.List) → verdictOf l ≡ Accepted → (s : Signature) (rest : List Signature) → listing l ≡ s ∷ rest
-    → (i : ℕ) × (listPreferred l ≡ chosen.Rule (record { index = i; rule = ruleOf s }))
+pub list-first : (l : declared.List) → verdictOf l ≡ accepted [] → (s : Signature) (rest : List Signature) → listing l ≡ s ∷ rest
+    → (i : ℕ) × (listPreferred l ≡ accepted (i ∷ ruleValues (ruleOf s)))
 unfolding listPreferred
-list-first l accepted s rest e = go (entries l) refl (entries-rules l ∙ e)
+list-first l ok s rest e = go (entries l) refl (entries-rules l ∙ e)
   where
     go : (xs : List Entry) → entries l ≡ xs → map (λ (x : Entry). x .rule) xs ≡ s ∷ rest
-        → (i : ℕ) × (onVerdict (verdictOf l) (preferredOf (entries l)) chosen.Refused ≡ chosen.Rule (record { index = i; rule = ruleOf s }))
+        → (i : ℕ) × (onVerdict (verdictOf l) (preferredOf (entries l)) noChoice ≡ accepted (i ∷ ruleValues (ruleOf s)))
     go [] q f = let z : _≡_ {A = ℕ} 0 1 = cc in absurd (omega arith)
     go (x ∷ xs) q f =
         let h : x .rule ≡ s = cc in
-        (x .index, simp (accepted, q, h))
+        (x .index, simp (ok, q, h))

@@ -10,17 +10,17 @@ use lib.Bits.{bitAnd, and-zero-l}
 use lib.Dec.{ltb}
 use borrow.Author.Tests.{ltb-true, ltb-false}
 use Rattle.scalars.specs.Mask.{choose, both, filter, every, bits}
-use Rattle.scalars.specs.Domain.{isAbstract}
+use Rattle.scalars.specs.Domain.{isAbstract, known?}
 use Rattle.rules.specs.Signature.{reaches}
 use Rattle.domain.specs.Constructor.{singletonOfCode}
 use Rattle.rules.specs.Rule.{passes}
-use Rattle.regular.specs.Regular.{Known, pairs, codesOf, signatureFor, regularRules, emptyRegular, narrowed, concreteSet, concludedOf, concluded?, allConclude, regularArg, regularConcrete}
-use Rattle.lists.specs.Agreement.{stepRegular, askRegular, knownStep}
+use Rattle.regular.specs.Regular.{pairs, codesOf, signatureFor, regularRules, emptyRegular, narrowed, concreteSet, concludedOf, concluded?, allConclude, regularArg, regularConcrete}
+use Rattle.regular.specs.private.Tested.{Known}
 use Rattle.rules.specs.Verdict.{onVerdict}
-use Rattle.scalars.specs.declared.answer.Verdict.{Verdict}
+use Rattle.scalars.specs.Paper.{Paper, accepted, refusal}
+use Rattle.regular.specs.SetPaper.{regularValues, noSet}
 use Rattle.regular.specs.declared.regular.ConclusionRule.{ConclusionRule}
 use Rattle.regular.specs.declared.regular.Regular.{Regular}
-use Rattle.regular.specs.declared.regular.RegularAnswer.the-variants as regular
 use Rattle.rules.specs.declared.rule.Keep.{Keep}
 use Rattle.rules.specs.declared.rule.Keep.the-variants.{Argument, Concrete}
 use Rattle.scalars.proofs.Bits.{bits-none}
@@ -29,6 +29,11 @@ use Rattle.lists.proofs.InTurn.{listed-both, listed-comm, listed-twice,
 use Rattle.regular.proofs.Regulars.{known-accepted}
 use Rattle.regular.proofs.RegularCodes.{narrowed-codes, concrete-codes}
 use Rattle.regular.proofs.RegularSteps.{narrowed-rules, past-rules, concrete-rules, narrowed-known, concrete-known, empty-known}
+
+-- what a step leaves of a Regular set that is accepted
+unfoldable pub stepRegular : Keep → Regular → Regular
+stepRegular (Argument i t) r = choose (ltb i (r .arity)) (narrowed t r) emptyRegular
+stepRegular Concrete r = concreteSet r
 
 -- rules have an argument, or there is no constructor and so no rule: an index at or above the arity leaves a set of the second kind
 abbrev pub Lasting : Regular → Type 0
@@ -113,9 +118,19 @@ step-concludes (Argument i t) r e = go (ltb i (r .arity))
     go true = fewer-conclude (r .conclude) (reaches t) (codesOf r) (codesOf (narrowed t r)) (narrowed-codes t r) e
     go false = ap (every (λ t. concluded? (concludedOf (emptyRegular .conclude) t))) no-codes
 
--- ---- the answer is the set that the step leaves
+-- ---- the answer is the set that the step leaves; to a number that is no type, refusal 7
 
-pub asked-regular : (k : Keep) (r : Regular) → Known r → knownStep k ≡ true → askRegular k r ≡ regular.Set (stepRegular k r)
+abbrev pub knownStep : Keep → Bool
+knownStep (Argument i t) = known? t
+knownStep Concrete = true
+
+abbrev pub askRegular : Keep → Regular → Paper
+askRegular (Argument i t) r = regularArg i t r
+askRegular Concrete r = regularConcrete r
+
+pub asked-regular : (k : Keep) (r : Regular) → Known r → askRegular k r ≡ choose (knownStep k) (accepted (regularValues (stepRegular k r))) (refusal 7 0 noSet)
 unfolding stepRegular regularArg regularConcrete
-asked-regular Concrete r known e = ap (λ (v : Verdict). onVerdict v (regular.Set (concreteSet r)) regular.Refused) (known-accepted r known)
-asked-regular (Argument i t) r known e = simp (e, known-accepted r known)
+asked-regular Concrete r known = ap (λ (v : Paper). onVerdict v (accepted (regularValues (concreteSet r))) noSet) (known-accepted r known)
+asked-regular (Argument i t) r known =
+    ap (λ (v : Paper). choose (known? t) (onVerdict v (accepted (regularValues (choose (ltb i (r .arity)) (narrowed t r) emptyRegular))) noSet) (refusal 7 0 noSet))
+    (known-accepted r known)

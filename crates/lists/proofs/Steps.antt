@@ -6,7 +6,8 @@ use native.Mathlib.Nat.{lt-of-le-of-lt}
 use Rattle.scalars.specs.Mask.{filter}
 use Rattle.lists.specs.Entry.{keep}
 use Rattle.rules.specs.Rule.{passes}
-use Rattle.lists.specs.List.{signatures, listing, entries, cleanList, kept, Valid}
+use Rattle.lists.specs.List.{signatures, listing, entries, cleanList, kept}
+use Rattle.lists.specs.private.Tested.{Valid}
 use Rattle.lists.specs.declared.list.List.{List}
 use Rattle.rules.specs.declared.rule.Keep.{Keep}
 use Rattle.scalars.proofs.Masks.{sift-le}

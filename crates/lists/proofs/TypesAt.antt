@@ -6,13 +6,14 @@ use Prim.Native.Nat.{ℕ, _≤_, _<_}
 use lib.ListN.{length}
 use borrow.Author.Tests.{lt-ltb, le-ltb}
 use Rattle.scalars.specs.Mask.{every}
-use Rattle.rules.specs.Signature.{Signature}
-use Rattle.rules.specs.Listing.{acceptedTypes, refusedTypes, typeAt, hasAt}
+use Rattle.rules.specs.Signature.{Signature, typeAt}
+use Rattle.rules.specs.Listing.{acceptedTypes, noTypes}
+use Rattle.rules.proofs.Records.{hasAt}
 use Rattle.lists.specs.List.{allowedOf}
-use Rattle.scalars.specs.declared.refusal.Refusal.the-variants.{NoSuchArgument}
+use Rattle.scalars.specs.Paper.{refusal}
 
 module _ (i : ℕ) (rs : List Signature) {rest : List Signature} (left : every (hasAt i) rest ≡ every (hasAt i) rs) where
-  pub lacks : {s : Signature} {ss : List Signature} → rest ≡ s ∷ ss → length (s .arguments) ≤ i → refusedTypes (NoSuchArgument i) ≡ allowedOf i rs
+  pub lacks : {s : Signature} {ss : List Signature} → rest ≡ s ∷ ss → length (s .arguments) ≤ i → refusal 4 i noTypes ≡ allowedOf i rs
   unfolding allowedOf
   lacks e h =
       let f : every (hasAt i) rs ≡ false = sym left ∙ ap (every (hasAt i)) e ∙ simp (le-ltb _ _ h) in

@@ -2,7 +2,7 @@
 use mathlib.Core.Bool.{Bool}
 use mathlib.Core.List.{List, [], _∷_}
 use Prim.Native.Nat.{ℕ, suc}
-use Rattle.scalars.specs.Mask.{consIf}
+use Rattle.scalars.specs.Mask.{filter}
 use Rattle.rules.specs.Signature.{Signature}
 
 -- a rule with its index
@@ -16,5 +16,4 @@ number i (r ∷ rs) = record { index = i; rule = r } ∷ number (suc i) rs
 
 -- the rules that pass a test, with their indices, in order
 abbrev pub keep : (Signature → Bool) → List Entry → List Entry
-keep p [] = []
-keep p (x ∷ xs) = consIf (p (x .rule)) x (keep p xs)
+keep p xs = filter (λ (x : Entry). p (x .rule)) xs

@@ -2,5 +2,6 @@
 pub mod Entry
 pub mod List
 pub mod Expansion
-pub mod Agreement
 pub mod ChosenPaper
+pub mod private
+pub mod claims

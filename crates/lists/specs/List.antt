@@ -1,31 +1,20 @@
 -- 'List': rules in order of preference and a mask of those that are left, and what each operation answers of them.
-use mathlib.Core.Path.{_≡_}
 use mathlib.Core.List as L
 use mathlib.Core.List.{[], _∷_, map}
-use Prim.Native.Nat.{ℕ, _-_, _^_, _≤_, _<_}
+use Prim.Native.Nat.{ℕ, _-_, _^_}
 use lib.Dec.{leb, ltb}
-use lib.ListN.{take, replicate}
+use lib.ListN.{length, take, replicate}
 use Rattle.scalars.specs.Mask.{choose, both, every, select, sift, padded}
 use Rattle.scalars.specs.Domain.{known?}
-use Rattle.rules.specs.Signature.{Signature}
+use Rattle.rules.specs.Signature.{Signature, typeAt}
 use Rattle.lists.specs.Entry.{Entry, number}
 use Rattle.rules.specs.Verdict.{onVerdict, emptyOf, countOf}
 use Rattle.rules.specs.Rule.{blankRule, signatureOf, ruleOf, knownRule, shortRule, passes}
-use Rattle.rules.specs.Listing.{acceptedListing, refusedListing, acceptedTypes, refusedTypes, typeAt, hasAt}
-use Rattle.scalars.specs.declared.answer.Verdict.{Verdict}
-use Rattle.scalars.specs.declared.answer.Verdict.the-variants as verdict
-use Rattle.scalars.specs.declared.answer.Test.{Test}
-use Rattle.scalars.specs.declared.answer.Test.the-variants as test
-use Rattle.scalars.specs.declared.answer.CountAnswer.{CountAnswer}
-use Rattle.scalars.specs.declared.answer.CountAnswer.the-variants as count
-use Rattle.rules.specs.declared.listing.Listing.{Listing}
-use Rattle.rules.specs.declared.listing.AllowedArgs.{AllowedArgs}
+use Rattle.rules.specs.Listing.{acceptedListing, noListing, acceptedTypes, noTypes}
+use Rattle.scalars.specs.Paper.{Paper, accepted, refusal}
+use Rattle.rules.specs.RulePaper.{ruleValues}
+use Rattle.lists.specs.ChosenPaper.{listValues, noChoice}
 use Rattle.lists.specs.declared.list.List.{List}
-use Rattle.lists.specs.declared.list.ListAnswer.{ListAnswer}
-use Rattle.lists.specs.declared.list.ChosenAnswer.{ChosenAnswer}
-use Rattle.lists.specs.declared.list.ChosenAnswer.the-variants as chosen
-use Rattle.scalars.specs.declared.refusal.Refusal.{Refusal}
-use Rattle.scalars.specs.declared.refusal.Refusal.the-variants.{EmptySet, TooMany, NoSuchArgument, Unknown}
 use Rattle.rules.specs.declared.rule.Rule.{Rule}
 use Rattle.rules.specs.declared.rule.Keep.{Keep}
 use Rattle.rules.specs.declared.rule.Keep.the-variants.{Argument}
@@ -49,74 +38,61 @@ unfoldable pub entries : List → L.List Entry
 entries l = select (number 0 (signatures l)) (l .members)
 
 -- the List of no rules
-abbrev pub noList : List
-noList = record { rules = replicate mostRules blankRule; len = 0; members = 0 }
+unfoldable pub noListValues : L.List ℕ
+noListValues = listValues (record { rules = replicate mostRules blankRule; len = 0; members = 0 })
 
-unfoldable pub acceptedList : List → ListAnswer
-acceptedList l = record { answer = verdict.Accepted; list = l }
-
-unfoldable pub refusedList : Refusal → ListAnswer
-refusedList why = record { answer = verdict.Refused why; list = noList }
+unfoldable pub acceptedList : List → Paper
+acceptedList l = accepted (listValues l)
 
 -- 255 in what is not in use
 unfoldable pub cleanList : List → List
-cleanList l = record {
-  rules = padded mostRules blankRule (map ruleOf (signatures l));
-  len = l .len;
-  members = l .members;
-}
+cleanList l = record { rules = padded mostRules blankRule (map ruleOf (signatures l)); len = l .len; members = l .members }
 
 -- an unknown code, or a member outside the length, is refusal 7; then more than 63 rules, or a rule of more than four arguments, is 3
-unfoldable pub verdictOf : List → Verdict
+unfoldable pub verdictOf : List → Paper
 verdictOf l =
     choose (both (every knownRule (held l)) (ltb (l .members) (2 ^ l .len)))
-    (choose (both (leb (l .len) mostRules) (every shortRule (held l))) verdict.Accepted (verdict.Refused TooMany))
-    (verdict.Refused (Unknown 0))
+    (choose (both (leb (l .len) mostRules) (every shortRule (held l))) (accepted []) (refusal 3 0 []))
+    (refusal 7 0 [])
 
-unfoldable pub checkedList : List → ListAnswer
-checkedList l = onVerdict (verdictOf l) (acceptedList (cleanList l)) refusedList
+unfoldable pub checkedList : List → Paper
+checkedList l = onVerdict (verdictOf l) (acceptedList (cleanList l)) noListValues
 
 -- the first n rules, all of them members
-unfoldable pub fromRules : L.List Rule → ℕ → ListAnswer
+unfoldable pub fromRules : L.List Rule → ℕ → Paper
 fromRules rules n = checkedList (record { rules = rules; len = n; members = choose (leb n mostRules) (2 ^ n - 1) 0 })
 
 -- a step leaves the members that pass
 unfoldable pub kept : Keep → List → List
 kept k l = record { rules = l .rules; len = l .len; members = sift (passes k) (signatures l) (l .members) }
 
-unfoldable pub listStep : Keep → List → ListAnswer
-listStep k l = onVerdict (verdictOf l) (acceptedList (kept k (cleanList l))) refusedList
+unfoldable pub listStep : Keep → List → Paper
+listStep k l = onVerdict (verdictOf l) (acceptedList (kept k (cleanList l))) noListValues
 
 -- an operand's type above 180 is refusal 7
-unfoldable pub listArg : ℕ → ℕ → List → ListAnswer
-listArg i t l = choose (known? t) (listStep (Argument i t) l) (refusedList (Unknown 0))
+unfoldable pub listArg : ℕ → ℕ → List → Paper
+listArg i t l = choose (known? t) (listStep (Argument i t) l) (refusal 7 0 noListValues)
 
-unfoldable pub listEmpty : List → Test
-listEmpty l = onVerdict (verdictOf l) (emptyOf (listing l)) test.Refused
+unfoldable pub listEmpty : List → Paper
+listEmpty l = onVerdict (verdictOf l) (emptyOf (listing l)) (255 ∷ [])
 
-unfoldable pub listCount : List → CountAnswer
-listCount l = onVerdict (verdictOf l) (countOf (listing l)) count.Refused
+unfoldable pub listCount : List → Paper
+listCount l = onVerdict (verdictOf l) (countOf (listing l)) (255 ∷ [])
 
 -- the first member, with its index; of no rules, refusal 1
-abbrev pub preferredOf : L.List Entry → ChosenAnswer
-preferredOf [] = chosen.Refused (EmptySet 0)
-preferredOf (x ∷ xs) = chosen.Rule (record { index = x .index; rule = ruleOf (x .rule) })
+abbrev pub preferredOf : L.List Entry → Paper
+preferredOf [] = refusal 1 0 noChoice
+preferredOf (x ∷ xs) = accepted (x .index ∷ ruleValues (ruleOf (x .rule)))
 
-unfoldable pub listPreferred : List → ChosenAnswer
-listPreferred l = onVerdict (verdictOf l) (preferredOf (entries l)) chosen.Refused
+unfoldable pub listPreferred : List → Paper
+listPreferred l = onVerdict (verdictOf l) (preferredOf (entries l)) noChoice
 
-unfoldable pub listListing : List → Listing
-listListing l = onVerdict (verdictOf l) (acceptedListing (listing l)) refusedListing
+unfoldable pub listListing : List → Paper
+listListing l = onVerdict (verdictOf l) (acceptedListing (listing l)) noListing
 
 -- the types at an argument; where some member lacks it, refusal 4
-unfoldable pub allowedOf : ℕ → L.List Signature → AllowedArgs
-allowedOf i rs = choose (every (hasAt i) rs) (acceptedTypes (map (typeAt i) rs)) (refusedTypes (NoSuchArgument i))
+unfoldable pub allowedOf : ℕ → L.List Signature → Paper
+allowedOf i rs = choose (every (λ (r : Signature). ltb i (length (r .arguments))) rs) (acceptedTypes (map (typeAt i) rs)) (refusal 4 i noTypes)
 
-unfoldable pub listAllowed : ℕ → List → AllowedArgs
-listAllowed i l = onVerdict (verdictOf l) (allowedOf i (listing l)) refusedTypes
-
--- what a List that was tested is: no more rules than it takes, each member one of them, and 255 in what is not in use
-pub record Valid (l : List) : Type 0 where
-  pub few : l .len ≤ mostRules
-  pub within : l .members < 2 ^ l .len
-  pub clean : cleanList l ≡ l
+unfoldable pub listAllowed : ℕ → List → Paper
+listAllowed i l = onVerdict (verdictOf l) (allowedOf i (listing l)) noTypes

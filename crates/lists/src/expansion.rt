@@ -2,6 +2,7 @@
 
 ghost use mathlib.Core.Path.{_≡_};
 ghost use lib.ListN.{take};
+ghost use Rattle.lists.specs.ChosenPaper.{listPaper};
 ghost use Rattle.lists.specs.Expansion.{expanded};
 use crate::list::List;
 use crate::list::ListAnswer;
@@ -17,7 +18,7 @@ use scalars::Verdict;
 
 // The List of a Regular set's rules. Refused as the set is, then 3 for more than 63 rules, then 13 where one has no conclusion.
 pub fn expand(set: Regular) -> ListAnswer
-    ensures { λ r. ⌜ r ≡ expanded set ⌝ }
+    ensures { λ r. ⌜ listPaper r ≡ expanded set ⌝ }
 {
     if let Verdict::Refused(why) = set.verdict() {
         return refused(why);

@@ -1,7 +1,7 @@
 // Lists of rules: naga's `src/proc/overloads/list.rs`, above the crates `rules` and `regular`.
 //
 // Beside `list` stand `walks`, the loops over a List's members, and `expansion`, a Regular set as a List. Every public function ends on
-// every input and tests it itself.
+// every input and tests it itself, but for the bare walks that docs/DECISIONS.md lists.
 
 mod expansion;
 mod list;
@@ -12,6 +12,6 @@ pub use list::Chosen;
 pub use list::ChosenAnswer;
 pub use list::List;
 pub use list::ListAnswer;
-pub use list::len_to_full_mask;
+pub use walks::RuleSet;
 pub use walks::filter;
 pub use walks::longest;

@@ -10,7 +10,11 @@ ghost use lib.Dec.{leb, ltb};
 ghost use lib.ListN.{take};
 ghost use Rattle.scalars.specs.Mask.{choose, padded, every};
 ghost use Rattle.rules.specs.Rule.{blankRule, ruleOf, signatureOf, knownRule, shortRule};
-ghost use Rattle.lists.specs.List.{mostRules, checkedList, fromRules, listArg, listStep, listEmpty, listCount, listPreferred, listListing, listAllowed, acceptedList, refusedList};
+ghost use Rattle.scalars.specs.Paper.{refused, testPaper, countPaper};
+ghost use Rattle.rules.specs.RulePaper.{listingPaper, typesPaper};
+ghost use Rattle.lists.specs.ChosenPaper.{listPaper, chosenPaper};
+ghost use Rattle.lists.specs.List.{mostRules, checkedList, fromRules, listArg, listStep, listEmpty, listCount, listPreferred, listListing, listAllowed, acceptedList, noListValues};
+use crate::walks::RuleSet;
 use crate::walks::allowed;
 use crate::walks::filter;
 use crate::walks::first;
@@ -63,7 +67,7 @@ impl List {
     // The List of the first n rules, all of them members. Refused 7 for an unknown code, then 3 for more than 63 rules or a rule of
     // more than four arguments.
     pub fn from_rules(rules: [Rule; 63], n: usize) -> ListAnswer
-        ensures { λ r. ⌜ r ≡ fromRules rules n ⌝ }
+        ensures { λ r. ⌜ listPaper r ≡ fromRules rules n ⌝ }
     {
         List {
             rules: rules,
@@ -74,7 +78,7 @@ impl List {
 
     // The List with 255 in what is not in use. Refused 7 for an unknown code or member, then 3 for too many rules or arguments.
     pub fn checked(self) -> ListAnswer
-        ensures { λ r. ⌜ r ≡ checkedList self ⌝ }
+        ensures { λ r. ⌜ listPaper r ≡ checkedList self ⌝ }
     {
         let n = self.len;
         let rules = self.rules;
@@ -101,7 +105,7 @@ impl List {
 
     // The members whose rule has that argument, and takes the type there. Refused 7 for a type code above 180, then as the List is.
     pub fn arg(self, i: usize, t: u8) -> ListAnswer
-        ensures { λ r. ⌜ r ≡ listArg i t self ⌝ }
+        ensures { λ r. ⌜ listPaper r ≡ listArg i t self ⌝ }
     {
         if LAST_CODE < t {
             return refused(Refusal::Unknown(0));
@@ -111,27 +115,35 @@ impl List {
 
     // The members without an abstract argument. Refused as the List is.
     pub fn concrete_only(self) -> ListAnswer
-        ensures { λ r. ⌜ r ≡ listStep Keep.Concrete self ⌝ }
+        ensures { λ r. ⌜ listPaper r ≡ listStep Keep.Concrete self ⌝ }
     {
         self.step(Keep::Concrete)
     }
 
     // The members that pass a test.
     fn step(self, keep: Keep) -> ListAnswer
-        ensures { λ r. ⌜ r ≡ listStep keep self ⌝ }
+        ensures { λ r. ⌜ listPaper r ≡ listStep keep self ⌝ }
     {
         let tested = self.checked();
         let verdict = tested.answer;
         let list = tested.list;
         match verdict {
             Verdict::Refused(why) => refused(why),
-            Verdict::Accepted => accepted(filter(list, keep)),
+            Verdict::Accepted => {
+                let left = filter(list, RuleSet(list.members), keep);
+                let rules = list.rules;
+                accepted(List {
+                    rules: rules,
+                    len: list.len,
+                    members: left.0,
+                })
+            }
         }
     }
 
     // Whether no member is left. Refused as the List is.
     pub fn is_empty(self) -> Test
-        ensures { λ r. ⌜ r ≡ listEmpty self ⌝ }
+        ensures { λ r. ⌜ testPaper r ≡ listEmpty self ⌝ }
     {
         let tested = self.checked();
         let verdict = tested.answer;
@@ -148,14 +160,14 @@ impl List {
 
     // The least number of arguments: as in the crate, the longest member's. Refused as the List is, then 1 where no member is left.
     pub fn min_arguments(self) -> CountAnswer
-        ensures { λ r. ⌜ r ≡ listCount self ⌝ }
+        ensures { λ r. ⌜ countPaper r ≡ listCount self ⌝ }
     {
         self.max_arguments()
     }
 
     // The most arguments: the longest member's. Refused as the List is, then 1 where no member is left.
     pub fn max_arguments(self) -> CountAnswer
-        ensures { λ r. ⌜ r ≡ listCount self ⌝ }
+        ensures { λ r. ⌜ countPaper r ≡ listCount self ⌝ }
     {
         let tested = self.checked();
         let verdict = tested.answer;
@@ -168,7 +180,7 @@ impl List {
 
     // The first member, with its index. Refused as the List is, then 1 where no member is left.
     pub fn most_preferred(self) -> ChosenAnswer
-        ensures { λ r. ⌜ r ≡ listPreferred self ⌝ }
+        ensures { λ r. ⌜ chosenPaper r ≡ listPreferred self ⌝ }
     {
         let tested = self.checked();
         let verdict = tested.answer;
@@ -181,7 +193,7 @@ impl List {
 
     // The members' rules, in order. Refused as the List is.
     pub fn overload_list(self) -> Listing
-        ensures { λ r. ⌜ r ≡ listListing self ⌝ }
+        ensures { λ r. ⌜ listingPaper r ≡ listListing self ⌝ }
     {
         let tested = self.checked();
         let verdict = tested.answer;
@@ -194,7 +206,7 @@ impl List {
 
     // The members' types at an argument, in order. Refused as the List is, then 4 where some member lacks that argument.
     pub fn allowed_args(self, i: usize) -> AllowedArgs
-        ensures { λ r. ⌜ r ≡ listAllowed i self ⌝ }
+        ensures { λ r. ⌜ typesPaper r ≡ listAllowed i self ⌝ }
     {
         let tested = self.checked();
         let verdict = tested.answer;
@@ -208,7 +220,7 @@ impl List {
 
 // The List of no rules, as a refusal answers it, beside the refusal.
 pub(crate) fn refused(why: Refusal) -> ListAnswer
-    ensures { λ r. ⌜ r ≡ refusedList why ⌝ }
+    ensures { λ r. ⌜ listPaper r ≡ refused why noListValues ⌝ }
 {
     ListAnswer {
         answer: Verdict::Refused(why),
@@ -222,7 +234,7 @@ pub(crate) fn refused(why: Refusal) -> ListAnswer
 
 // A List that is accepted.
 pub(crate) fn accepted(list: List) -> ListAnswer
-    ensures { λ r. ⌜ r ≡ acceptedList list ⌝ }
+    ensures { λ r. ⌜ listPaper r ≡ acceptedList list ⌝ }
 {
     ListAnswer {
         answer: Verdict::Accepted,
@@ -241,7 +253,7 @@ pub(crate) fn held(n: usize) -> usize
 }
 
 // The mask of n members; of more rules than a List holds, none.
-pub fn len_to_full_mask(n: usize) -> u64
+pub(crate) fn len_to_full_mask(n: usize) -> u64
     ensures { λ r. ⌜ r ≡ choose (leb n mostRules) (2 ^ n - 1) 0 ⌝ }
 {
     if MOST_RULES < n {

@@ -1,10 +1,16 @@
 // The walks over the members of a List, lowest bit first; each member's number is had by counting trailing zeros. `filter` and `longest`
-// take any List; the others one that was tested.
+// take any List; the others one that was tested. A step's walk answers which rules are left, and not another array of them.
 
 ghost use mathlib.Core.Path.{_≡_};
 ghost use Prim.Native.Nat.{_%_, _^_, min};
+ghost use Rattle.scalars.specs.Paper.{countPaper};
+ghost use Rattle.rules.specs.RulePaper.{listingPaper, typesPaper};
+ghost use Rattle.lists.specs.ChosenPaper.{chosenPaper};
 ghost use Rattle.rules.specs.Listing.{acceptedListing};
-ghost use Rattle.lists.specs.List.{Valid, kept, preferredOf, allowedOf, listing, entries};
+ghost use Rattle.rules.specs.Rule.{passes};
+ghost use Rattle.scalars.specs.Mask.{sift};
+ghost use Rattle.lists.specs.private.Tested.{Valid};
+ghost use Rattle.lists.specs.List.{preferredOf, allowedOf, signatures, listing, entries};
 ghost use Rattle.rules.specs.Verdict.{countOf};
 use crate::list::Chosen;
 use crate::list::ChosenAnswer;
@@ -19,11 +25,14 @@ use rules::no_types;
 use scalars::CountAnswer;
 use scalars::Refusal;
 
-// The members that pass a test: one walk for every step.
-pub fn filter(list: List, keep: Keep) -> List
-    ensures { λ r. ⌜ r ≡ kept keep list ⌝ }
+// A set of a List's rules: bit k stands for the rule at the index k.
+pub struct RuleSet(pub u64);
+
+// Those of the rules that pass a test: one walk for every step. A bit that has no rule passes none.
+pub fn filter(list: List, rules: RuleSet, keep: Keep) -> RuleSet
+    ensures { λ r. ⌜ r .0 ≡ sift (passes keep) (signatures list) (rules .0) ⌝ }
 {
-    let mut rest = with_rules(list);
+    let mut rest = with_rules(list.len, rules.0);
     let mut left: u64 = 0;
     while rest != 0 {
         let n = u64::trailing_zeros(rest) as usize;
@@ -34,19 +43,14 @@ pub fn filter(list: List, keep: Keep) -> List
         }
         rest -= bit;
     }
-    let rules = list.rules;
-    List {
-        rules: rules,
-        len: list.len,
-        members: left,
-    }
+    RuleSet(left)
 }
 
 // The longest member's number of arguments. Refused 1 where no member is left.
 pub fn longest(list: List) -> CountAnswer
-    ensures { λ r. ⌜ r ≡ countOf (listing list) ⌝ }
+    ensures { λ r. ⌜ countPaper r ≡ countOf (listing list) ⌝ }
 {
-    let mut rest = with_rules(list);
+    let mut rest = with_rules(list.len, list.members);
     if rest == 0 {
         return CountAnswer::Refused(Refusal::EmptySet(0));
     }
@@ -63,17 +67,17 @@ pub fn longest(list: List) -> CountAnswer
     CountAnswer::Count(best)
 }
 
-// The members that have a rule: every member of a tested List.
-fn with_rules(list: List) -> u64
-    ensures { λ r. ⌜ r ≡ list .members % 2 ^ min (list .len) 63 ⌝ }
+// The bits of a mask that have one of n rules: every member of a tested List.
+fn with_rules(n: usize, mask: u64) -> u64
+    ensures { λ r. ⌜ r ≡ mask % 2 ^ min n 63 ⌝ }
 {
-    list.members % (1u64 << held(list.len))
+    mask % (1u64 << held(n))
 }
 
 // The first member.
 pub(crate) fn first(list: List) -> ChosenAnswer
     requires { ⌜ Valid list ⌝ }
-    ensures { λ r. ⌜ r ≡ preferredOf (entries list) ⌝ }
+    ensures { λ r. ⌜ chosenPaper r ≡ preferredOf (entries list) ⌝ }
 {
     let rest = list.members;
     if rest == 0 {
@@ -90,7 +94,7 @@ pub(crate) fn first(list: List) -> ChosenAnswer
 // The members' rules.
 pub(crate) fn listed(list: List) -> Listing
     requires { ⌜ Valid list ⌝ }
-    ensures { λ r. ⌜ r ≡ acceptedListing (listing list) ⌝ }
+    ensures { λ r. ⌜ listingPaper r ≡ acceptedListing (listing list) ⌝ }
 {
     let mut out = no_rules();
     let mut count: usize = 0;
@@ -111,7 +115,7 @@ pub(crate) fn listed(list: List) -> Listing
 // The members' types at an argument.
 pub(crate) fn allowed(list: List, i: usize) -> AllowedArgs
     requires { ⌜ Valid list ⌝ }
-    ensures { λ r. ⌜ r ≡ allowedOf i (listing list) ⌝ }
+    ensures { λ r. ⌜ typesPaper r ≡ allowedOf i (listing list) ⌝ }
 {
     let mut out = no_codes();
     let mut count: usize = 0;

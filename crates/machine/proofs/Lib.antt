@@ -8,3 +8,4 @@ pub mod Matching
 pub mod LinesDone
 pub mod RuleRecords
 pub mod Outcomes
+pub mod RunPapers

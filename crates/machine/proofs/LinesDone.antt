@@ -12,8 +12,8 @@ use Rattle.machine.specs.declared.machine.Stepped.{Stepped}
 use Rattle.expressions.specs.Tree.{lastLeaf}
 use Rattle.machine.specs.Line.{lineOf, leafMark, callMark, conversionMark}
 use Rattle.machine.specs.Machine.{stepIf}
-use Rattle.machine.specs.TopLast.{pushLast, convertLast, applyLast, stepLast}
-use Rattle.machine.specs.MachineStack.{operandsOf, Did, leafDone}
+use Rattle.machine.specs.private.TopLast.{pushLast, convertLast, applyLast, stepLast}
+use Rattle.machine.specs.private.MachineStack.{operandsOf, Did, leafDone}
 use Rattle.machine.proofs.Stacks.{stop}
 
 module _ (t : ℕ) (k : Stack) where

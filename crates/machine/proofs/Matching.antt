@@ -10,7 +10,7 @@ use lib.Seq.{getD-take, getD-drop}
 use Rattle.rules.specs.Rule.{mostArguments, argumentsOf}
 use Rattle.rules.specs.declared.rule.Rule.{Rule}
 use Rattle.machine.specs.declared.machine.Stack.{Stack}
-use Rattle.machine.specs.MachineStack.{operandsOf, InBounds, alikeFrom}
+use Rattle.machine.specs.private.MachineStack.{operandsOf, InBounds, alikeFrom}
 use Rattle.machine.proofs.Stacks.{arity, counted}
 use Rattle.machine.proofs.Likeness.{same-end, same-differ, same-next}
 

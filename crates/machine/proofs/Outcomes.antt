@@ -12,13 +12,13 @@ use lib.ListN.{length, getD, drop}
 use Rattle.rules.specs.Signature.{Signature}
 use Rattle.machine.specs.declared.machine.Run.the-variants.{Stopped}
 use Rattle.machine.specs.declared.machine.Stepped.{Stepped}
-use Rattle.machine.specs.Line.{lineOf}
-use Rattle.machine.specs.Machine.{Outcome, ended, stopped, next, stepIf, runBytesBy, runBytes}
-use Rattle.machine.specs.TopLast.{stepLast}
-use Rattle.machine.specs.Run.{ranOf}
-use Rattle.machine.specs.MachineStack.{ranLast, operandsOf, InBounds, Did}
-use Rattle.machine.proofs.TopLast.{turned, runBytesLast, top-last}
-use Rattle.machine.proofs.Walk.{walk-end, walk-partial, walk-line}
+use Rattle.machine.specs.Line.{Line, lineOf, linesOf}
+use Rattle.machine.specs.Machine.{Outcome, ended, stopped, next, stepIf, runBytes}
+use Rattle.machine.specs.private.TopLast.{stepLast}
+use Rattle.machine.specs.Run.{runPaper, ranOf}
+use Rattle.machine.specs.private.MachineStack.{ranLast, operandsOf, InBounds, Did}
+use Rattle.machine.proofs.TopLast.{turned, runLast, top-last}
+use Rattle.machine.proofs.Walk.{lines-end, lines-partial, lines-next}
 
 clash : {A : Type 0} {s : List ℕ} {n : ℕ} → ended s ≡ stopped n → A
 clash e = absurd (let z : _≡_ {A = ℕ} 0 1 = cc in omega arith)
@@ -29,7 +29,7 @@ ended-ran (ended s′) s e =
     ap (λ (l : List ℕ). ranOf (ended l)) (ap reverse p ∙ reverse-reverse s′)
 ended-ran (stopped n) s e = clash e
 
-stopped-ran : (o : Outcome) (n : ℕ) → stopped n ≡ turned o → Stopped n ≡ ranOf o
+stopped-ran : (o : Outcome) (n : ℕ) → stopped n ≡ turned o → runPaper (Stopped n) ≡ ranOf o
 stopped-ran (ended s) n e = clash (sym e)
 stopped-ran (stopped m) n e = cc
 
@@ -51,36 +51,33 @@ abbrev pub lineAt : (ℕ → List Signature) → List ℕ → ℕ → List ℕ �
 lineAt listingOf bs at s =
     stepIf (stepLast listingOf) (lineOf (getD bs at 0) (getD bs (at + 1) 0) (getD bs (at + 2) 0) (getD bs (at + 3) 0)) s
 
-pub run-starts : (listingOf : ℕ → List Signature) (bs s : List ℕ) → s ≡ []
-    → runBytesBy (stepLast listingOf) bs 0 s ≡ runBytesLast listingOf bs
+pub run-starts : (listingOf : ℕ → List Signature) (bs s : List ℕ) → s ≡ [] → runLast listingOf (linesOf bs) 0 s ≡ runLast listingOf (linesOf bs) 0 []
 run-starts listingOf bs s e = rw e
 
 module _ (listingOf : ℕ → List Signature) (bs : List ℕ) (at n : ℕ) (s : List ℕ)
-    (inv : runBytesBy (stepLast listingOf) (drop at bs) n s ≡ runBytesLast listingOf bs) where
-  pub run-ended : length bs ≤ at → ranLast s ≡ ranOf (runBytes listingOf bs)
-  run-ended h =
-      ended-ran (runBytes listingOf bs) s (sym (walk-end (stepLast listingOf) n s bs at h) ∙ inv ∙ top-last listingOf bs)
+    (inv : runLast listingOf (linesOf (drop at bs)) n s ≡ runLast listingOf (linesOf bs) 0 []) where
+  -- the run from these lines on goes out as the whole run does
+  from : {os : List (Option Line)} → linesOf (drop at bs) ≡ os → runLast listingOf os n s ≡ turned (runBytes listingOf bs)
+  from e = ap (λ (os : List (Option Line)). runLast listingOf os n s) (sym e) ∙ inv ∙ top-last listingOf bs
 
-  pub run-partial : at < length bs → length bs - at < 4 → Stopped n ≡ ranOf (runBytes listingOf bs)
-  run-partial h l =
-      stopped-ran (runBytes listingOf bs) n
-      (sym (walk-partial (stepLast listingOf) n s bs at h (omega arith)) ∙ inv ∙ top-last listingOf bs)
+  pub run-ended : length bs ≤ at → ranLast s ≡ ranOf (runBytes listingOf bs)
+  run-ended h = ended-ran (runBytes listingOf bs) s (from (lines-end bs at h))
+
+  pub run-partial : at < length bs → length bs - at < 4 → runPaper (Stopped n) ≡ ranOf (runBytes listingOf bs)
+  run-partial h l = stopped-ran (runBytes listingOf bs) n (from (lines-partial bs at h (omega arith)))
 
   module _ (whole : at + 4 ≤ length bs) (r : Stepped) (did : Did (lineAt listingOf bs at s) r) where
-    one-line : (o : Option (List ℕ)) → lineAt listingOf bs at s ≡ o
-        → next n (λ (s′ : List ℕ). runBytesBy (stepLast listingOf) (drop (at + 4) bs) (suc n) s′) o ≡ runBytesLast listingOf bs
-    one-line o e =
-        ap (next n (λ (s′ : List ℕ). runBytesBy (stepLast listingOf) (drop (at + 4) bs) (suc n) s′)) (sym e)
-        ∙ sym (walk-line (stepLast listingOf) n s bs at whole) ∙ inv
+    one-line : {o : Option (List ℕ)} → lineAt listingOf bs at s ≡ o
+        → next n (λ (s′ : List ℕ). runLast listingOf (linesOf (drop (at + 4) bs)) (suc n) s′) o ≡ turned (runBytes listingOf bs)
+    one-line e =
+        ap (next n (λ (s′ : List ℕ). runLast listingOf (linesOf (drop (at + 4) bs)) (suc n) s′)) (sym e) ∙ from (lines-next bs at whole)
 
-    pub run-stopped : r .done ≡ false → Stopped n ≡ ranOf (runBytes listingOf bs)
-    run-stopped e =
-        stopped-ran (runBytes listingOf bs) n
-        (one-line none (undone (lineAt listingOf bs at s) r did e) ∙ top-last listingOf bs)
+    pub run-stopped : r .done ≡ false → runPaper (Stopped n) ≡ ranOf (runBytes listingOf bs)
+    run-stopped e = stopped-ran (runBytes listingOf bs) n (one-line (undone (lineAt listingOf bs at s) r did e))
 
     pub run-next : r .done ≡ true
         → InBounds (r .stack)
-        × (runBytesBy (stepLast listingOf) (drop (at + 4) bs) (n + 1) (operandsOf (r .stack)) ≡ runBytesLast listingOf bs)
+        × (runLast listingOf (linesOf (drop (at + 4) bs)) (n + 1) (operandsOf (r .stack)) ≡ runLast listingOf (linesOf bs) 0 [])
     run-next e =
         let w = went (lineAt listingOf bs at s) r did e in
-        (w .fits, rw add-one (one-line (some (operandsOf (r .stack))) (w .there)))
+        (w .fits, rw add-one (one-line (w .there) ∙ sym (top-last listingOf bs)))

@@ -15,18 +15,18 @@ use Rattle.rules.specs.Signature.{Signature}
 use Rattle.rules.specs.Rule.{mostArguments, signatureOf, ruleOf}
 use Rattle.functions.specs.Functions.{functionCount, listingOf, ruleIn, ruleAt}
 use Rattle.rules.specs.declared.rule.Rule.{Rule}
-use Rattle.scalars.specs.declared.refusal.Refusal.{Refusal}
-use Rattle.scalars.specs.declared.refusal.Refusal.the-variants.{Unknown}
-use Rattle.rules.specs.declared.rule.RuleAnswer.the-variants as answered
+use Rattle.scalars.specs.Paper.{Paper, accepted, refusal, values}
+use Rattle.rules.specs.RulePaper.{ruleValues, noRule}
+use Rattle.rules.proofs.RulePapers.{ruleNamed}
 use Rattle.rules.proofs.Records.{record-says}
 use Rattle.machine.specs.declared.machine.Stack.{Stack}
 use Rattle.machine.specs.declared.machine.Stepped.{Stepped}
-use Rattle.machine.specs.TopLast.{applyLast}
-use Rattle.machine.specs.MachineStack.{Did}
+use Rattle.machine.specs.private.TopLast.{applyLast}
+use Rattle.machine.specs.private.MachineStack.{Did}
 use Rattle.machine.proofs.Stacks.{stop}
 use Rattle.functions.proofs.Database.{four-arguments, unknown-none}
 
-clash : {A : Type 0} {q : Rule} {why : Refusal} → answered.Refused why ≡ answered.Rule q → A
+clash : {A : Type 0} {n p : ℕ} {vs ws : List ℕ} → refusal n p vs ≡ accepted ws → A
 clash e = absurd (let z : _≡_ {A = ℕ} 0 1 = cc in omega arith)
 
 -- the rule of this record stands there
@@ -42,34 +42,34 @@ stands-first r q h e = record {
 }
 
 stands-in : (rs : List Signature) (i : ℕ) (q : Rule) → ((r : Signature) → getElem? rs i ≡ some r → length (r .arguments) ≤ mostArguments)
-    → ruleIn rs i ≡ answered.Rule q → Stands (getElem? rs i) q
+    → ruleIn rs i ≡ accepted (ruleValues q) → Stands (getElem? rs i) q
 stands-in [] i q s e = clash e
-stands-in (r ∷ rs) zero q s e = stands-first r q (s r refl) (cc)
+stands-in (r ∷ rs) zero q s e = stands-first r q (s r refl) (ap (λ (p : Paper). ruleNamed (values p)) e)
 stands-in (r ∷ rs) (suc i) q s e = stands-in rs i q s e
 
-none-in : (rs : List Signature) (i : ℕ) (why : Refusal) → ruleIn rs i ≡ answered.Refused why → getElem? rs i ≡ none
-none-in [] i why e = refl
-none-in (r ∷ rs) zero why e = clash (sym e)
-none-in (r ∷ rs) (suc i) why e = none-in rs i why e
+none-in : (rs : List Signature) (i : ℕ) (n p : ℕ) → ruleIn rs i ≡ refusal n p noRule → getElem? rs i ≡ none
+none-in [] i n p e = refl
+none-in (r ∷ rs) zero n p e = clash (sym e)
+none-in (r ∷ rs) (suc i) n p e = none-in rs i n p e
 
 module _ (f i : ℕ) where
-  pub stands : (q : Rule) → answered.Rule q ≡ ruleAt f i → Stands (getElem? (listingOf f) i) q
+  pub stands : (q : Rule) → accepted (ruleValues q) ≡ ruleAt f i → Stands (getElem? (listingOf f) i) q
   unfolding ruleAt
   stands q e = go (ltb f functionCount) e
     where
-      go : (b : Bool) → answered.Rule q ≡ choose b (ruleIn (listingOf f) i) (answered.Refused (Unknown 0))
+      go : (b : Bool) → accepted (ruleValues q) ≡ choose b (ruleIn (listingOf f) i) (refusal 7 0 noRule)
           → Stands (getElem? (listingOf f) i) q
       go true p = stands-in (listingOf f) i q (four-arguments f i) (sym p)
       go false p = clash (sym p)
 
-  pub none-there : (why : Refusal) → answered.Refused why ≡ ruleAt f i → getElem? (listingOf f) i ≡ none
+  pub none-there : (n p : ℕ) → refusal n p noRule ≡ ruleAt f i → getElem? (listingOf f) i ≡ none
   unfolding ruleAt
-  none-there why e = go (ltb f functionCount) refl e
+  none-there n p e = go (ltb f functionCount) refl e
     where
-      go : (b : Bool) → ltb f functionCount ≡ b → answered.Refused why ≡ choose b (ruleIn (listingOf f) i) (answered.Refused (Unknown 0))
+      go : (b : Bool) → ltb f functionCount ≡ b → refusal n p noRule ≡ choose b (ruleIn (listingOf f) i) (refusal 7 0 noRule)
           → getElem? (listingOf f) i ≡ none
-      go true h p = none-in (listingOf f) i why (sym p)
-      go false h p = ap (λ (rs : List Signature). getElem? rs i) (unknown-none f (ltb-false f functionCount h))
+      go true h q = none-in (listingOf f) i n p (sym q)
+      go false h q = ap (λ (rs : List Signature). getElem? rs i) (unknown-none f (ltb-false f functionCount h))
 
 -- a call by the rule that stands there, and a call where none does
 pub called : (n : ℕ) (s : List ℕ) (o : Option Signature) (q : Rule) (r : Stepped) → Stands o q

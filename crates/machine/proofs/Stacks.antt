@@ -21,9 +21,10 @@ use Rattle.machine.specs.declared.machine.Run.the-variants.{Ended}
 use Rattle.machine.specs.declared.machine.Stack.{Stack}
 use Rattle.machine.specs.declared.machine.Stepped.{Stepped}
 use Rattle.machine.specs.Line.{onlyIf}
-use Rattle.machine.specs.Machine.{mostOperands, convertible, same}
-use Rattle.machine.specs.TopLast.{pushLast, convertLast, applyLast}
-use Rattle.machine.specs.MachineStack.{ranLast, operandsOf, InBounds, Did, alikeFrom}
+use Rattle.machine.specs.Machine.{mostOperands, same}
+use Rattle.machine.specs.Run.{runPaper}
+use Rattle.machine.specs.private.TopLast.{pushLast, convertLast, applyLast, convertible}
+use Rattle.machine.specs.private.MachineStack.{ranLast, operandsOf, InBounds, Did, alikeFrom}
 
 -- a rule that counts no more arguments than its record holds has as many as it counts
 pub arity : (q : Rule) → q .count ≤ mostArguments → length (argumentsOf q) ≡ q .count
@@ -121,10 +122,10 @@ module _ (k : Stack) (fits : InBounds k) where
             applied-if r (rw (le-leb n (k .top) enough, take-take (k .top - n) (k .top) (k .types) (omega arith), ← right, e, right) h)
 
   -- the end of a run
-  pub ends-empty : k .top ≡ 0 → Ended 0 255 ≡ ranLast (operandsOf k)
+  pub ends-empty : k .top ≡ 0 → runPaper (Ended 0 255) ≡ ranLast (operandsOf k)
   ends-empty e = rw e
 
-  pub ends : (k .top ≡ 0 → ⊥) → Ended (k .top) (getD (k .types) (k .top - 1) 0) ≡ ranLast (operandsOf k)
+  pub ends : (k .top ≡ 0 → ⊥) → runPaper (Ended (k .top) (getD (k .types) (k .top - 1) 0)) ≡ ranLast (operandsOf k)
   ends h =
       let e : k .top ≡ suc (k .top - 1) = omega arith in
       let last : operandsOf k ≡ take (k .top - 1) (k .types) ++ (getD (k .types) (k .top - 1) 0 ∷ []) =

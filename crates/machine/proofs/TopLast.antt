@@ -12,9 +12,9 @@ use borrow.Author.Tests.{ltb-true, leb-true}
 use Rattle.scalars.specs.Mask.{both}
 use Rattle.rules.specs.Signature.{Signature}
 use Rattle.expressions.specs.Tree.{lastLeaf}
-use Rattle.machine.specs.Line.{Line, leafLine, conversionLine, callLine, onlyIf, lineOf}
-use Rattle.machine.specs.Machine.{Outcome, ended, stopped, mostOperands, push, convertible, convertAt, same, apply, next, stepIf, runBytesBy, step, runBytes}
-use Rattle.machine.specs.TopLast.{pushLast, convertLast, applyLast, stepLast}
+use Rattle.machine.specs.Line.{Line, leafLine, conversionLine, callLine, onlyIf, linesOf}
+use Rattle.machine.specs.Machine.{Outcome, ended, stopped, mostOperands, push, convertAt, same, apply, next, stepIf, runBy, step, runBytes}
+use Rattle.machine.specs.private.TopLast.{pushLast, convertLast, applyLast, stepLast, convertible}
 use Rattle.machine.proofs.Likeness.{same-same, same-is}
 
 -- an outcome with its stack turned over
@@ -136,21 +136,16 @@ module _ (listingOf : ℕ → List Signature) where
   next-turned n go go′ h none = refl
   next-turned n go go′ h (some s) = h s
 
-  run-turned : (bs : List ℕ) (n : ℕ) (s : List ℕ)
-      → runBytesBy (stepLast listingOf) bs n (reverse s) ≡ turned (runBytesBy (step listingOf) bs n s)
+  -- the lines that bytes spell, run from a line's number on
+  abbrev pub runLast : List (Option Line) → ℕ → List ℕ → Outcome
+  runLast os n s = runBy (stepIf (stepLast listingOf)) os n s
+
+  run-turned : (os : List (Option Line)) (n : ℕ) (s : List ℕ) → runLast os n (reverse s) ≡ turned (runBy (stepIf (step listingOf)) os n s)
   run-turned [] n s = refl
-  run-turned (a ∷ []) n s = refl
-  run-turned (a ∷ b ∷ []) n s = refl
-  run-turned (a ∷ b ∷ c ∷ []) n s = refl
-  run-turned (a ∷ b ∷ c ∷ d ∷ rest) n s =
-      rw (step-if-turned (lineOf a b c d) s)
-      (next-turned n (λ (s′ : List ℕ). runBytesBy (step listingOf) rest (suc n) s′)
-      (λ (s′ : List ℕ). runBytesBy (stepLast listingOf) rest (suc n) s′)
-      (λ s′. run-turned rest (suc n) s′) (stepIf (step listingOf) (lineOf a b c d) s))
+  run-turned (o ∷ os) n s =
+      rw (step-if-turned o s)
+      (next-turned n (λ (s′ : List ℕ). runBy (stepIf (step listingOf)) os (suc n) s′) (λ (s′ : List ℕ). runLast os (suc n) s′)
+      (λ s′. run-turned os (suc n) s′) (stepIf (step listingOf) o s))
 
-  -- from the empty stack
-  abbrev pub runBytesLast : List ℕ → Outcome
-  runBytesLast bs = runBytesBy (stepLast listingOf) bs 0 []
-
-  pub top-last : (bs : List ℕ) → runBytesLast bs ≡ turned (runBytes listingOf bs)
-  top-last bs = run-turned bs 0 []
+  pub top-last : (bs : List ℕ) → runLast (linesOf bs) 0 [] ≡ turned (runBytes listingOf bs)
+  top-last bs = run-turned (linesOf bs) 0 []

@@ -1,6 +1,6 @@
--- What the contracts and theorems of this crate say: the lines of a worksheet and the strict machine.
+-- What the contracts and theorems of this crate say: the lines of a worksheet and the strict machine; `private` holds what the contracts
+-- of the crate's own functions say.
 pub mod Line
 pub mod Machine
-pub mod TopLast
 pub mod Run
-pub mod MachineStack
+pub mod private

@@ -1,4 +1,4 @@
--- 'A worksheet is lines of four bytes': a line, the lines of a call, a line's bytes, and the line that four bytes spell.
+-- 'A worksheet is lines of four bytes': a line, the lines of a call, a line's bytes, and the lines that bytes spell.
 use mathlib.Core.Bool.{Bool, true, false}
 use mathlib.Core.List.{List, [], _∷_, _++_}
 use mathlib.Core.Option.{Option, none, some}
@@ -15,17 +15,12 @@ pub data Line : Type 0 where
   conversionLine : ℕ → ℕ → Line
   callLine : ℕ → ℕ → ℕ → Line
 
--- a line in front of the others, unless the types are the same
-abbrev pub unlessSame : Bool → Line → List Line → List Line
-unlessSame true l ls = ls
-unlessSame false l ls = l ∷ ls
-
 -- the conversions of operands to a rule's arguments, by ascending argument, only where types differ; above an operand on the stack
 -- stand the operands after it
 abbrev pub conversions : List ℕ → List ℕ → List Line
 conversions [] az = []
 conversions (t ∷ ts) [] = []
-conversions (t ∷ ts) (a ∷ az) = unlessSame (eqb t a) (conversionLine (length ts) a) (conversions ts az)
+conversions (t ∷ ts) (a ∷ az) = choose (eqb t a) (conversions ts az) (conversionLine (length ts) a ∷ conversions ts az)
 
 -- a call by the rule at an index, behind the lines of its operands
 abbrev pub callLines : ℕ → ℕ → List ℕ → Signature → List Line
@@ -56,13 +51,16 @@ abbrev pub onlyIf {ℓ} : {A : Type ℓ} → Bool → Option A → Option A
 onlyIf true x = x
 onlyIf false x = none
 
-abbrev pub leafOf : ℕ → ℕ → ℕ → Option Line
-leafOf t y z = onlyIf (both (eqb y 0) (eqb z 0)) (some (leafLine (record { type = t })))
-
-abbrev pub conversionOf : ℕ → ℕ → ℕ → Option Line
-conversionOf d a z = onlyIf (eqb z 0) (some (conversionLine d a))
-
 abbrev pub lineOf : ℕ → ℕ → ℕ → ℕ → Option Line
 lineOf tag x y z =
-    choose (eqb tag leafMark) (leafOf x y z)
-    (choose (eqb tag callMark) (some (callLine x y z)) (onlyIf (eqb tag conversionMark) (conversionOf x y z)))
+    choose (eqb tag leafMark) (onlyIf (both (eqb y 0) (eqb z 0)) (some (leafLine (record { type = x }))))
+    (choose (eqb tag callMark) (some (callLine x y z))
+    (onlyIf (eqb tag conversionMark) (onlyIf (eqb z 0) (some (conversionLine x y)))))
+
+-- the lines that bytes spell, one after the other: none stands for four bytes that spell no line, and for a partial line at the end
+abbrev pub linesOf : List ℕ → List (Option Line)
+linesOf (a ∷ b ∷ c ∷ d ∷ rest) = lineOf a b c d ∷ linesOf rest
+linesOf [] = []
+linesOf (a ∷ []) = none ∷ []
+linesOf (a ∷ b ∷ []) = none ∷ []
+linesOf (a ∷ b ∷ c ∷ []) = none ∷ []

@@ -8,7 +8,7 @@ use lib.ListN.{length, getD, set, take, drop, getElem?}
 use Rattle.scalars.specs.Mask.{both}
 use Rattle.rules.specs.Signature.{Signature, reaches}
 use Rattle.expressions.specs.Tree.{lastLeaf}
-use Rattle.machine.specs.Line.{Line, leafLine, conversionLine, callLine, onlyIf, lineOf}
+use Rattle.machine.specs.Line.{Line, leafLine, conversionLine, callLine, onlyIf, linesOf}
 
 -- what is left on the stack at the end, or the line at which the machine stopped, from 0
 pub data Outcome : Type 0 where
@@ -22,13 +22,9 @@ mostOperands = 64
 abbrev pub push : ℕ → List ℕ → Option (List ℕ)
 push t s = onlyIf (ltb (length s) mostOperands) (some (t ∷ s))
 
--- a conversion stops if the type is the same, the constructor differs, or the scalar doesn't convert
-abbrev pub convertible : ℕ → ℕ → Bool
-convertible t a = both (not (eqb t a)) (reaches t a)
-
--- and if the depth isn't on the stack
+-- a conversion stops if the depth isn't on the stack, the type is the same, the constructor differs, or the scalar doesn't convert
 unfoldable pub convertAt : ℕ → ℕ → List ℕ → Option (List ℕ)
-convertAt d a s = onlyIf (both (ltb d (length s)) (convertible (getD s d 0) a)) (some (set s d a))
+convertAt d a s = onlyIf (both (ltb d (length s)) (both (not (eqb (getD s d 0) a)) (reaches (getD s d 0) a))) (some (set s d a))
 
 abbrev pub same : List ℕ → List ℕ → Bool
 same [] [] = true
@@ -44,43 +40,31 @@ apply n s (some r) =
     onlyIf (eqb (length (r .arguments)) n)
     (onlyIf (both (leb n (length s)) (same (take n s) (reverse (r .arguments)))) (push (r .result) (drop n s)))
 
--- what a line does to a stack, or nothing where it stops
-abbrev pub Stepper : Type 0
-Stepper = Line → List ℕ → Option (List ℕ)
+-- a step: what a line does to a stack, or nothing where it stops. A line is of any type: a `Line`, or what bytes spell
+abbrev pub Stepper : Type 0 → Type 0
+Stepper A = A → List ℕ → Option (List ℕ)
 
 abbrev pub next : ℕ → (List ℕ → Outcome) → Option (List ℕ) → Outcome
 next n go none = stopped n
 next n go (some s) = go s
 
 -- the lines from number n on, each by a step, on a stack
-abbrev pub runBy : Stepper → List Line → ℕ → List ℕ → Outcome
+abbrev pub runBy : {A : Type 0} → Stepper A → List A → ℕ → List ℕ → Outcome
 runBy step [] n s = ended s
 runBy step (l ∷ ls) n s = next n (λ (s′ : List ℕ). runBy step ls (suc n) s′) (step l s)
 
--- bytes that spell no line stop
-abbrev pub stepIf : Stepper → Option Line → List ℕ → Option (List ℕ)
+-- bytes that spell no line stop, a partial line among them
+abbrev pub stepIf : Stepper Line → Stepper (Option Line)
 stepIf step none s = none
 stepIf step (some l) s = step l s
 
--- the same over bytes; a partial line stops
-abbrev pub runBytesBy : Stepper → List ℕ → ℕ → List ℕ → Outcome
-runBytesBy step [] n s = ended s
-runBytesBy step (a ∷ []) n s = stopped n
-runBytesBy step (a ∷ b ∷ []) n s = stopped n
-runBytesBy step (a ∷ b ∷ c ∷ []) n s = stopped n
-runBytesBy step (a ∷ b ∷ c ∷ d ∷ rest) n s =
-    next n (λ (s′ : List ℕ). runBytesBy step rest (suc n) s′) (stepIf step (lineOf a b c d) s)
-
 module _ (listingOf : ℕ → List Signature) where
   -- a leaf type above 156 stops
-  abbrev pub step : Stepper
+  abbrev pub step : Stepper Line
   step (leafLine l) s = onlyIf (leb (l .type) lastLeaf) (push (l .type) s)
   step (conversionLine d a) s = convertAt d a s
   step (callLine f i n) s = apply n s (getElem? (listingOf f) i)
 
   -- from the empty stack
-  abbrev pub run : List Line → Outcome
-  run ls = runBy step ls 0 []
-
   abbrev pub runBytes : List ℕ → Outcome
-  runBytes bs = runBytesBy step bs 0 []
+  runBytes bs = runBy (stepIf step) (linesOf bs) 0 []

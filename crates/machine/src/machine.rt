@@ -14,9 +14,9 @@ ghost use Rattle.rules.specs.Rule.{mostArguments, signatureOf};
 ghost use Rattle.functions.specs.Functions.{listingOf};
 ghost use Rattle.machine.specs.Line.{lineOf};
 ghost use Rattle.machine.specs.Machine.{stepIf, runBytes};
-ghost use Rattle.machine.specs.TopLast.{pushLast, convertLast, applyLast, stepLast};
-ghost use Rattle.machine.specs.Run.{ranOf};
-ghost use Rattle.machine.specs.MachineStack.{alikeFrom, InBounds, operandsOf, Holds, Did, leafDone, ranLast};
+ghost use Rattle.machine.specs.private.TopLast.{pushLast, convertLast, applyLast, stepLast};
+ghost use Rattle.machine.specs.Run.{runPaper, ranOf};
+ghost use Rattle.machine.specs.private.MachineStack.{alikeFrom, InBounds, operandsOf, Holds, Did, leafDone, ranLast};
 use crate::line::CALL_LINE;
 use crate::line::CONVERSION_LINE;
 use crate::line::LEAF_LINE;
@@ -56,7 +56,7 @@ struct Stepped {
 
 // Runs a worksheet from the empty stack.
 pub fn run_worksheet(sheet: &[u8]) -> Run
-    ensures { λ r. ⌜ r ≡ ranOf (runBytes listingOf (now (sheet .entry))) ⌝ }
+    ensures { λ r. ⌜ runPaper r ≡ ranOf (runBytes listingOf (now (sheet .entry))) ⌝ }
 {
     let mut stack = no_operands();
     let mut at = 0;
@@ -85,7 +85,7 @@ pub fn run_worksheet(sheet: &[u8]) -> Run
 // The end of a run with this stack.
 fn ended(stack: Stack) -> Run
     requires { ⌜ InBounds stack ⌝ }
-    ensures { λ r. ⌜ r ≡ ranLast (operandsOf stack) ⌝ }
+    ensures { λ r. ⌜ runPaper r ≡ ranLast (operandsOf stack) ⌝ }
 {
     if stack.top == 0 {
         return Run::Ended {

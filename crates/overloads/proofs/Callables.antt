@@ -12,9 +12,9 @@ use borrow.Author.Tests.{eqb-true, eq-eqb, leb-true, ltb-true, not-true}
 use Rattle.scalars.specs.Mask.{both, every}
 use Rattle.rules.specs.Signature.{Signature}
 use Rattle.rules.specs.Verdict.{longest}
-use Rattle.overloads.specs.Taking.{OneLength}
+use Rattle.overloads.specs.claims.Taking.{OneLength}
 use Rattle.regular.specs.Regular.{codesOf, signatureFor, regularRules, emptySet?, allConclude}
-use Rattle.overloads.specs.Call.{Callable}
+use Rattle.overloads.specs.private.CallSets.{Callable}
 use Rattle.regular.specs.declared.regular.Regular.{Regular}
 use Rattle.scalars.proofs.Filters.{both-left, both-right, both-true}
 

@@ -15,11 +15,10 @@ use Rattle.rules.specs.Signature.{Signature, reaches, takesAt, takes, concrete}
 use Rattle.lists.specs.Entry.{Entry, number, keep}
 use Rattle.overloads.specs.Choice.{Narrowed, left, emptied, narrow, wrongCount, first, concreteStep, afterOperands, resolve}
 use Rattle.rules.specs.Verdict.{longest}
-use Rattle.overloads.specs.Taking.{Takes, NoRule, Best, OneLength, LeftAfter, Says}
+use Rattle.overloads.specs.claims.Taking.{Takes, NoRule, Best, OneLength, LeftAfter, Says}
 use Rattle.scalars.proofs.Filters.{both-left, both-right, both-true}
 use Rattle.overloads.proofs.Firsts.{keep-keep, keep-every, IsFirst, none-passes, first-is}
-use Rattle.overloads.specs.Demand2.{takesFrom, permits, takesAll}
-use Rattle.overloads.proofs.Narrowing.{Some, Narrows, narrow-narrows}
+use Rattle.overloads.proofs.Narrowing.{takesFrom, permits, passesAll, Some, Narrows, narrow-narrows}
 
 pub concrete-keeps : (switch : Bool) (s : List Entry) → concreteStep switch s ≡ keep (permits switch) s
 concrete-keeps false s = sym (keep-every s)
@@ -68,7 +67,7 @@ only-allowed true r h = h refl
 
 -- the whole test is `Takes`, for a rule with as many arguments as there are operands
 module _ (switch : Bool) (ts : List ℕ) (r : Signature) where
-  passes-takes : length ts ≡ length (r .arguments) → takesAll switch ts r ≡ true → Takes switch ts r
+  pub passes-takes : length ts ≡ length (r .arguments) → passesAll switch ts r ≡ true → Takes switch ts r
   passes-takes l e =
       record {
         many = l;
@@ -76,7 +75,7 @@ module _ (switch : Bool) (ts : List ℕ) (r : Signature) where
         allowed = allowed-only switch r (both-right (takesFrom 0 ts r) (permits switch r) e);
       }
 
-  takes-passes : Takes switch ts r → takesAll switch ts r ≡ true
+  pub takes-passes : Takes switch ts r → passesAll switch ts r ≡ true
   takes-passes h =
       let l : length ts ≡ length (r .arguments) = h .many in
       both-true (from-reached ts 0 r (omega arith) (λ j lt. rw plain (h .reached j lt))) (only-allowed switch r (h .allowed))
@@ -107,11 +106,11 @@ module _ (rules : List Signature) (ts : List ℕ) (k : ℕ) (h : k < length ts) 
 
 -- what the steps answer
 module _ (switch : Bool) (rules : List Signature) (ts : List ℕ) (one : OneLength rules) where
-  no-rule : keep (takesAll switch ts) (number 0 rules) ≡ [] → NoRule switch rules ts
+  no-rule : keep (passesAll switch ts) (number 0 rules) ≡ [] → NoRule switch rules ts
   unfolding NoRule
-  no-rule e i r h t = true≢false (sym (takes-passes switch ts r t) ∙ none-passes (takesAll switch ts) rules 0 e i r h)
+  no-rule e i r h t = true≢false (sym (takes-passes switch ts r t) ∙ none-passes (passesAll switch ts) rules 0 e i r h)
 
-  best : length ts ≡ longest rules → (i : ℕ) (r : Signature) → IsFirst (takesAll switch ts) rules i r → Best switch rules ts i r
+  best : length ts ≡ longest rules → (i : ℕ) (r : Signature) → IsFirst (passesAll switch ts) rules i r → Best switch rules ts i r
   unfolding OneLength
   best l i r f =
       record {
@@ -121,9 +120,9 @@ module _ (switch : Bool) (rules : List Signature) (ts : List ℕ) (one : OneLeng
       }
 
   first-says : length ts ≡ longest rules → ((j : ℕ) → j < length ts → LeftAfter rules ts j)
-      → (s : List Entry) → s ≡ keep (takesAll switch ts) (number 0 rules) → Says switch rules ts (first s)
+      → (s : List Entry) → s ≡ keep (passesAll switch ts) (number 0 rules) → Says switch rules ts (first s)
   first-says l w [] e = record { counted = l; after = w; none = no-rule (sym e) }
-  first-says l w (x ∷ xs) e = best l (x .index) (x .rule) (first-is (takesAll switch ts) rules (x .index) (x .rule) (ap first (sym e)))
+  first-says l w (x ∷ xs) e = best l (x .index) (x .rule) (first-is (passesAll switch ts) rules (x .index) (x .rule) (ap first (sym e)))
 
   narrowed-says : length ts ≡ longest rules → (y : Narrowed) → Narrows ts 0 (number 0 rules) y → Says switch rules ts (afterOperands switch y)
   narrowed-says l (left s) h =

@@ -2,7 +2,7 @@
 -- Assumes nothing.
 use mathlib.Core.Path.{_≡_, refl, sym, ap, _∙_, subst}
 use mathlib.Core.Bool.{Bool, true, false, false≢true}
-use mathlib.Core.List.{List, _∷_}
+use mathlib.Core.List.{List, [], _∷_}
 use mathlib.Core.Option.{some}
 use Prim.Native.Nat.{ℕ, zero, suc, _<_}
 use native.Mathlib.Omega.{arith}
@@ -11,19 +11,17 @@ use lib.ListN.{length, getElem?}
 use borrow.Author.Tests.{ltb-true, ltb-false}
 use Rattle.rules.specs.Signature.{Signature}
 use Rattle.scalars.specs.Mask.{select}
-use Rattle.lists.specs.Entry.{number, keep}
+use Rattle.lists.specs.Entry.{number}
 use Rattle.overloads.specs.Choice.{first, Choice, chosen, wrongCount, noneAfter, noneConcrete, resolve}
 use Rattle.rules.specs.Verdict.{longest}
-use Rattle.overloads.specs.Taking.{Takes, Taken, NoRule, Best, OneLength, LeftAfter, Emptied, Says}
-use Rattle.overloads.specs.Call.{answered, survivorsOf}
-use Rattle.lists.specs.declared.list.ChosenAnswer.the-variants as call
-use Rattle.overloads.specs.declared.call.Survivors.the-variants as survivors
-use Rattle.scalars.specs.declared.refusal.Refusal.{Refusal}
-use Rattle.overloads.specs.Demand2.{takesAll, Demand2}
+use Rattle.overloads.specs.claims.Taking.{Takes, Taken, NoRule, Best, OneLength, LeftAfter, Emptied, bit, Survive, Says}
+use Rattle.overloads.specs.Call.{survivorsOf}
+use Rattle.scalars.specs.Paper as paper
+use Rattle.overloads.specs.claims.Demand2.{Demand2}
 use Rattle.functions.specs.Functions.{listingOf}
 use Rattle.functions.proofs.Database.{one-length}
-use Rattle.overloads.proofs.Choices.{resolve-says}
-use Rattle.overloads.proofs.Surviving.{survivors-members, survivors-refused}
+use Rattle.overloads.proofs.Choices.{passes-takes, takes-passes, resolve-says}
+use Rattle.overloads.proofs.Surviving.{Surviving, survivors-members, survivors-refused}
 
 module _ (switch : Bool) (rules : List Signature) (ts : List ℕ) (one : OneLength rules) where
   -- ---- what is said of a call is said of one choice alone
@@ -101,16 +99,23 @@ module _ (switch : Bool) (rules : List Signature) (ts : List ℕ) (one : OneLeng
 
   -- ---- the survivors
 
-  -- accepted, they are the entries that take every operand and pass the switch, in order, and the call chooses the first; refused, the
-  -- call is refused alike
-  pub survivors-are : (m : ℕ) → survivorsOf switch rules ts ≡ survivors.Members m
-      → (select (number 0 rules) m ≡ keep (takesAll switch ts) (number 0 rules)) × (resolve switch rules ts ≡ first (select (number 0 rules) m))
-  survivors-are m e =
-      let h = survivors-members switch rules ts m e in
-      (h .members, h .choice ∙ sym (ap first (h .members)))
+  -- accepted, they are the rules that take the operands, and the call chooses the first; refused, the call is refused alike
+  pub survive : (m : ℕ) → survivorsOf switch rules ts ≡ paper.accepted (m ∷ []) → Survive switch rules ts m
+  unfolding OneLength
+  survive m e = record { within = h .within; exactly = λ i r f. (so i r f, λ t. h .bits i r f ∙ takes-passes switch ts r t) }
+    where
+      h : Surviving switch rules ts m
+      h = survivors-members switch rules ts m e
 
-  pub survivors-refused-alike : (why : Refusal) → survivorsOf switch rules ts ≡ survivors.Refused why → answered (resolve switch rules ts) ≡ call.Refused why
-  survivors-refused-alike why e = survivors-refused switch rules ts why e
+      best : Best switch rules ts (h .some .0) (h .some .1)
+      best = exactly (chosen (h .some .0) (h .some .1)) .0 (h .choice ∙ h .some .2)
+
+      so : (i : ℕ) (r : Signature) → getElem? rules i ≡ some r → bit i m ≡ true → Takes switch ts r
+      so i r f b =
+          passes-takes switch ts r (counted (h .some .0) (h .some .1) (best .there) (best .taken) ∙ sym (one i r f)) (sym (h .bits i r f) ∙ b)
+
+  pub preferred : (m : ℕ) → survivorsOf switch rules ts ≡ paper.accepted (m ∷ []) → resolve switch rules ts ≡ first (select (number 0 rules) m)
+  preferred m e = let h = survivors-members switch rules ts m e in h .choice ∙ sym (ap first (h .members))
 
   pub demand-2 : Demand2 switch rules ts
   demand-2 = record {
@@ -118,9 +123,9 @@ module _ (switch : Bool) (rules : List Signature) (ts : List ℕ) (one : OneLeng
     so-chosen = λ c. exactly c .1;
     accepted = accepted;
     accepts = accepts;
-    survive = λ m e. survivors-are m e .0;
-    preferred = λ m e. survivors-are m e .1;
-    refused = survivors-refused-alike;
+    survive = survive;
+    preferred = preferred;
+    refused = survivors-refused switch rules ts;
   }
 
 -- for each of the 79 functions, and for no rules where the number is unknown

@@ -1,24 +1,21 @@
 -- Filters of numbered rules: two are one, with both tests; the first rule that is left stands at its index in the listing, and none
 -- before it passes; where nothing is left, no rule of the listing passes.
 -- Assumes nothing.
-use mathlib.Core.Path.{_≡_, refl, sym, ap, _∙_}
+use mathlib.Core.Path.{_≡_, refl, ap}
 use mathlib.Core.Bool.{Bool, true, false}
 use mathlib.Core.List.{List, [], _∷_}
 use mathlib.Core.Option.{some}
 use Prim.Native.Nat.{ℕ, zero, suc, _+_, _<_}
 use native.Mathlib.Omega.{arith}
 use lib.ListN.{getElem?}
-use Rattle.scalars.specs.Mask.{both, consIf, filter}
+use Rattle.scalars.specs.Mask.{both, consIf}
 use Rattle.rules.specs.Signature.{Signature}
 use Rattle.lists.specs.Entry.{Entry, number, keep}
 use Rattle.overloads.specs.Choice.{chosen, first}
-use Rattle.lists.proofs.Entries.{keep-filter}
 use Rattle.scalars.proofs.Filters.{filter-both}
 
 pub keep-keep : (p q : Signature → Bool) (s : List Entry) → keep q (keep p s) ≡ keep (λ (r : Signature). both (p r) (q r)) s
-keep-keep p q s =
-    sym (keep-filter q (keep p s)) ∙ ap (filter (λ (x : Entry). q (x .rule))) (sym (keep-filter p s))
-    ∙ filter-both (λ (x : Entry). q (x .rule)) (λ (x : Entry). p (x .rule)) s ∙ keep-filter (λ (r : Signature). both (p r) (q r)) s
+keep-keep p q s = filter-both (λ (x : Entry). q (x .rule)) (λ (x : Entry). p (x .rule)) s
 
 pub keep-every : (s : List Entry) → keep (λ (r : Signature). true) s ≡ s
 keep-every [] = refl

@@ -8,15 +8,16 @@ use native.Mathlib.Omega.{arith}
 use lib.ListN.{length}
 use Rattle.scalars.specs.Mask.{every, bits}
 use Rattle.rules.specs.Signature.{Signature}
-use Rattle.rules.specs.Rule.{short?}
-use Rattle.lists.specs.List.{signatures, Valid}
+use Rattle.rules.proofs.Records.{short?}
+use Rattle.lists.specs.List.{signatures}
+use Rattle.lists.specs.private.Tested.{Valid}
 use Rattle.regular.specs.Regular.{regularRules, codesOf, allConclude, concludedOf, emptySet?}
 use Rattle.domain.specs.TypeCode.{predeclaredCode}
 use Rattle.listed.specs.Sequences.{floatScalars, concreteFloatScalars, concreteIntScalars, vectorSizes, vector, matrix, scalarOrVecn}
 use Rattle.listed.specs.ListedRules.{listedRules}
 use Rattle.functions.specs.Functions.{functionCount, functionSets, functionSetOf, rulesIn, listingOf}
 use Rattle.lists.specs.Expansion.{listOf}
-use Rattle.overloads.specs.Call.{Callable, Full}
+use Rattle.overloads.specs.private.CallSets.{Callable, Full}
 use Rattle.lists.specs.declared.list.List as lists
 use Rattle.functions.specs.declared.mathfunction.FunctionSet.{FunctionSet}
 use Rattle.functions.specs.declared.mathfunction.FunctionSet.the-variants as set
@@ -48,7 +49,7 @@ regular-few f r e = subst (λ (rs : List Signature). length rs ≤ 63) (regular-
 
 -- ---- Lists: each is a List that was tested, and its rules, all of them members, are those of its function
 
-short-listed : (l : Listed) → every short? (listedRules l) ≡ true
+pub short-listed : (l : Listed) → every short? (listedRules l) ≡ true
 unfolding listedRules floatScalars concreteFloatScalars concreteIntScalars vectorSizes scalarOrVecn
 short-listed Ldexp = refl
 short-listed Outer = refl

@@ -13,11 +13,12 @@ use Rattle.scalars.specs.Mask.{choose, consIf, odd, select, countFrom, bits, ma
 use Rattle.rules.specs.Signature.{Signature}
 use Rattle.lists.specs.Entry.{Entry, number}
 use Rattle.overloads.specs.Choice.{chosen, first}
-use Rattle.lists.specs.List.{signatures, listing, entries, Valid}
-use Rattle.overloads.specs.Call.{membersOf, maskAnswer, Full}
-use Rattle.overloads.specs.declared.call.Survivors.the-variants as survivors
+use Rattle.lists.specs.List.{signatures, listing, entries}
+use Rattle.lists.specs.private.Tested.{Valid}
+use Rattle.overloads.specs.Call.{membersOf}
+use Rattle.overloads.specs.private.CallSets.{maskAnswer, Full}
+use Rattle.scalars.specs.Paper.{accepted, refusal}
 use Rattle.lists.specs.declared.list.List.{List}
-use Rattle.scalars.specs.declared.refusal.Refusal.the-variants.{EmptySet}
 use Rattle.scalars.proofs.Bits.{mask-bits}
 use Rattle.lists.proofs.Entries.{number-length}
 use Rattle.lists.proofs.Lists.{valid-length, entries-none, entries-first}
@@ -72,10 +73,10 @@ module _ (l : List) (valid : Valid l) where
       within : l .members < 2 ^ length (signatures l)
       within = subst⁻¹ (λ (n : ℕ). l .members < 2 ^ n) (valid-length l valid) (valid .within)
 
-      some : (s : L.List Entry) → Some s → maskOf (map (λ (x : Entry). x .index) s) ≡ l .members → survivors.Members (l .members) ≡ membersOf s
+      some : (s : L.List Entry) → Some s → maskOf (map (λ (x : Entry). x .index) s) ≡ l .members → accepted (l .members ∷ []) ≡ membersOf s
       some [] f e = let z : _≡_ {A = ℕ} 0 1 = cc in absurd (omega arith)
-      some (x ∷ xs) f e = ap survivors.Members (sym e)
+      some (x ∷ xs) f e = ap (λ (m : ℕ). accepted (m ∷ [])) (sym e)
 
-      go : (b : Bool) → eqb (l .members) 0 ≡ b → choose b (survivors.Refused (EmptySet 0)) (survivors.Members (l .members)) ≡ membersOf (entries l)
+      go : (b : Bool) → eqb (l .members) 0 ≡ b → choose b (refusal 1 0 (0 ∷ [])) (accepted (l .members ∷ [])) ≡ membersOf (entries l)
       go true e = sym (ap membersOf (entries-none l (eqb-true _ _ e)))
       go false e = some (entries l) (left-some (λ z. eqb-false (l .members) 0 e z)) (mask-entries (signatures l) (l .members) within)

@@ -1,16 +1,30 @@
 -- The argument steps leave the rules that take every operand at its index; or they name the first operand after which none is left.
 -- Assumes nothing.
 use mathlib.Core.Path.{_≡_, refl, sym, ap, _∙_}
-use mathlib.Core.Bool.{true}
+use mathlib.Core.Bool.{Bool, true, false}
 use mathlib.Core.List.{List, [], _∷_}
 use Prim.Native.Nat.{ℕ, zero, suc, _+_, _<_}
 use native.Mathlib.Omega.{arith}
 use lib.ListN.{length, take}
-use Rattle.rules.specs.Signature.{Signature, takes}
-use Rattle.overloads.specs.Demand2.{takesFrom}
+use Rattle.scalars.specs.Mask.{both}
+use Rattle.rules.specs.Signature.{Signature, takes, concrete}
 use Rattle.lists.specs.Entry.{Entry, keep}
 use Rattle.overloads.specs.Choice.{Narrowed, left, emptied, unlessEmpty, narrow, chosen, first}
 use Rattle.overloads.proofs.Firsts.{keep-keep, keep-every}
+
+-- the steps of operands, from an index on, as one test of a rule
+abbrev pub takesFrom : ℕ → List ℕ → Signature → Bool
+takesFrom k [] r = true
+takesFrom k (t ∷ ts) r = both (takes k t r) (takesFrom (suc k) ts r)
+
+-- the concrete-only step, where the switch is on
+abbrev pub permits : Bool → Signature → Bool
+permits false r = true
+permits true r = concrete r
+
+-- all the steps as one test
+abbrev pub passesAll : Bool → List ℕ → Signature → Bool
+passesAll switch ts r = both (takesFrom 0 ts r) (permits switch r)
 
 -- some rule is left, a first one
 abbrev pub Some : List Entry → Type 0

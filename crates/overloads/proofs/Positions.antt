@@ -16,7 +16,7 @@ use Rattle.rules.specs.Signature.{Signature}
 use Rattle.lists.specs.Entry.{number, keep}
 use Rattle.overloads.specs.Choice.{chosen, first}
 use Rattle.regular.specs.Regular.{pairs}
-use Rattle.overloads.specs.Call.{rank}
+use Rattle.overloads.specs.private.CallSets.{rank}
 use Rattle.scalars.proofs.Masks.{select-mod, bit-is}
 use Rattle.scalars.proofs.Bits.{bits-count, bits-length, upTo-length}
 use Rattle.scalars.proofs.Filters.{both-left, both-right}

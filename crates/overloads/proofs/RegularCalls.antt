@@ -10,10 +10,12 @@ use Rattle.scalars.specs.Mask.{bits}
 use Rattle.lists.specs.Entry.{Entry, number}
 use Rattle.overloads.specs.Choice.{Narrowed, left, emptied, narrow, wrongCount, afterOperands, resolve}
 use Rattle.rules.specs.Verdict.{longest}
-use Rattle.regular.specs.Regular.{Known, signatureFor, regularRules, emptySet?, narrowed, concreteSet}
-use Rattle.overloads.specs.Call.{answered, Callable, preferredIn}
-use Rattle.lists.specs.declared.list.ChosenAnswer.the-variants as call
-use Rattle.scalars.specs.declared.refusal.Refusal.the-variants.{WrongCount}
+use Rattle.regular.specs.Regular.{signatureFor, regularRules, emptySet?, narrowed, concreteSet}
+use Rattle.regular.specs.private.Tested.{Known}
+use Rattle.overloads.specs.Call.{answered}
+use Rattle.overloads.specs.private.CallSets.{Callable, preferredIn}
+use Rattle.scalars.specs.Paper.{refusal}
+use Rattle.lists.specs.ChosenPaper.{noChoice}
 use Rattle.regular.specs.declared.regular.Regular.{Regular}
 use Rattle.regular.proofs.Regulars.{codes-first, longest-arity, lowestCode}
 use Rattle.regular.proofs.RegularSteps.{narrowed-known, concrete-known}
@@ -26,13 +28,13 @@ Reached set ts rest i =
     (i ≤ length ts) × Known rest × (s : List Entry) × Holds set rest s × (narrow (drop i ts) i s ≡ narrow ts 0 (number 0 (regularRules set)))
 
 module _ (set : Regular) (callable : Callable set) (ts : List ℕ) where
-  rules-longest : longest (regularRules set) ≡ set .arity
+  pub rules-longest : longest (regularRules set) ≡ set .arity
   unfolding regularRules
   rules-longest =
       let f = codes-first set (callable .known) (callable .some) in
       ap (λ (xs : List ℕ). longest (map (signatureFor set) xs)) (f .1) ∙ longest-arity set (lowestCode set) (f .0)
 
-  pub regular-wrong : (switch : Bool) → (length ts ≡ set .arity → ⊥) → call.Refused (WrongCount 0) ≡ answered (resolve switch (regularRules set) ts)
+  pub regular-wrong : (switch : Bool) → (length ts ≡ set .arity → ⊥) → refusal 5 0 noChoice ≡ answered (resolve switch (regularRules set) ts)
   unfolding resolve
   regular-wrong switch h = sym (ap answered (count-wrong (regularRules set) ts wrongCount _ (λ e. h (e ∙ rules-longest))))
 

@@ -16,14 +16,15 @@ use Rattle.rules.specs.Signature.{Signature, takes, concrete}
 use Rattle.lists.specs.Entry.{Entry, number, keep}
 use Rattle.overloads.specs.Choice.{chosen, first}
 use Rattle.rules.specs.Rule.{ruleOf}
-use Rattle.regular.specs.Regular.{Known, pairs, codesOf, signatureFor, regularRules, emptySet?, narrowed, concreteSet, concludes, allConclude, concludedOf, concluded?, ruleFrom, ruleFor, regularRule}
-use Rattle.overloads.specs.Call.{answered, Callable, placeIn, indexed, preferredIn}
-use Rattle.lists.specs.declared.list.ChosenAnswer.the-variants as call
-use Rattle.scalars.specs.declared.refusal.Refusal.the-variants.{EmptySet}
+use Rattle.regular.specs.Regular.{pairs, codesOf, signatureFor, regularRules, emptySet?, narrowed, concreteSet, allConclude, concludedOf, concluded?, ruleFrom, ruleFor, regularRule}
+use Rattle.regular.proofs.RegularRules.{concludes}
+use Rattle.regular.specs.private.Tested.{Known}
+use Rattle.overloads.specs.Call.{answered}
+use Rattle.overloads.specs.private.CallSets.{Callable, placeIn, indexed, preferredIn}
+use Rattle.scalars.specs.Paper.{Paper, accepted, refusal}
+use Rattle.rules.specs.RulePaper.{ruleValues}
+use Rattle.lists.specs.ChosenPaper.{noChoice}
 use Rattle.regular.specs.declared.regular.Regular.{Regular}
-use Rattle.rules.specs.declared.rule.RuleAnswer.the-variants as rule
-use Rattle.domain.specs.declared.type_code.CodeAnswer.{CodeAnswer}
-use Rattle.domain.specs.declared.type_code.CodeAnswer.the-variants as code
 use Rattle.scalars.proofs.Bits.{bits-first, bits-none}
 use Rattle.scalars.proofs.Filters.{both-left, every-filter, filter-both, filter-map, filter-all}
 use Rattle.overloads.proofs.Firsts.{keep-keep, keep-every}
@@ -141,17 +142,17 @@ module _ (set left : Regular) (s : List Entry) (h : Holds set left s) where
 
   -- the first that is left has a conclusion, as all have
   concluded : allConclude set ≡ true → (k : ℕ) (ks : List ℕ) → bits 13 (left .constructors .0) ≡ k ∷ ks → (n : ℕ) (ns : List ℕ)
-      → bits 12 (left .scalars .0) ≡ n ∷ ns → ruleFor set (k * 12 + n) ≡ rule.Rule (ruleOf (signatureFor set (k * 12 + n)))
+      → bits 12 (left .scalars .0) ≡ n ∷ ns → ruleFor set (k * 12 + n) ≡ accepted (ruleValues (ruleOf (signatureFor set (k * 12 + n))))
   unfolding allConclude ruleFor
   concluded all k ks c n ns d =
       go (concludedOf (set .conclude) (k * 12 + n)) refl
       (both-left (concludes set (k * 12 + n)) _
       (ap (every (concludes set)) (sym (left-codes ∙ ap₂ pairs c d)) ∙ every-filter (concludes set) (λ t. h .test (signatureFor set t)) (codesOf set) all))
     where
-      go : (a : CodeAnswer) → concludedOf (set .conclude) (k * 12 + n) ≡ a → concluded? (concludedOf (set .conclude) (k * 12 + n)) ≡ true
-          → ruleFrom (set .arity) (k * 12 + n) (concludedOf (set .conclude) (k * 12 + n)) ≡ rule.Rule (ruleOf (signatureFor set (k * 12 + n)))
-      go (code.Code x) q o = rw q
-      go (code.Refused why) q o = let z : _≡_ {A = ℕ} 0 1 = cc in absurd (omega arith)
+      go : (a : Paper) → concludedOf (set .conclude) (k * 12 + n) ≡ a → concluded? (concludedOf (set .conclude) (k * 12 + n)) ≡ true
+          → ruleFrom (set .arity) (k * 12 + n) (concludedOf (set .conclude) (k * 12 + n)) ≡ accepted (ruleValues (ruleOf (signatureFor set (k * 12 + n))))
+      go (accepted vs) q o = rw q
+      go (refusal m p vs) q o = let z : _≡_ {A = ℕ} 0 1 = cc in absurd (omega arith)
 
   -- the preferred rule, by the masks, is the first entry's
   pub holds-preferred : Callable set → preferredIn set (bits 13 (left .constructors .0)) (bits 12 (left .scalars .0)) ≡ answered (first s)
@@ -178,16 +179,16 @@ module _ (set left : Regular) (s : List Entry) (h : Holds set left s) where
 
 -- ---- the preferred rule of masks
 
-pub preferred-none : (set left : Regular) → emptySet? left ≡ true → call.Refused (EmptySet 0) ≡ preferredIn set (bits 13 (left .constructors .0)) (bits 12 (left .scalars .0))
+pub preferred-none : (set left : Regular) → emptySet? left ≡ true → refusal 1 0 noChoice ≡ preferredIn set (bits 13 (left .constructors .0)) (bits 12 (left .scalars .0))
 unfolding emptySet?
 preferred-none set left e = go (eqb (left .constructors .0) 0) (eqb (left .scalars .0) 0) refl refl e
   where
-    either-way : (ks : List ℕ) → preferredIn set ks [] ≡ call.Refused (EmptySet 0)
+    either-way : (ks : List ℕ) → preferredIn set ks [] ≡ refusal 1 0 noChoice
     either-way [] = refl
     either-way (k ∷ ks) = refl
 
     go : (x y : Bool) → eqb (left .constructors .0) 0 ≡ x → eqb (left .scalars .0) 0 ≡ y → either x y ≡ true
-        → call.Refused (EmptySet 0) ≡ preferredIn set (bits 13 (left .constructors .0)) (bits 12 (left .scalars .0))
+        → refusal 1 0 noChoice ≡ preferredIn set (bits 13 (left .constructors .0)) (bits 12 (left .scalars .0))
     go true y a b f = sym (ap (λ (ks : List ℕ). preferredIn set ks (bits 12 (left .scalars .0))) (ap (bits 13) (eqb-true _ _ a) ∙ bits-none 13))
     go false true a b f = sym (ap (preferredIn set (bits 13 (left .constructors .0))) (ap (bits 12) (eqb-true _ _ b) ∙ bits-none 12) ∙ either-way (bits 13 (left .constructors .0)))
     go false false a b f = let z : _≡_ {A = ℕ} 0 1 = cc in absurd (omega arith)

@@ -16,6 +16,10 @@ leastCount rs = longest rs
 abbrev pub mostCount : List Signature → ℕ
 mostCount rs = longest rs
 
+-- a number of operands below the least or above the most, or what follows
+abbrev pub ifCounted {ℓ} : {A : Type ℓ} → List Signature → List ℕ → A → A → A
+ifCounted rules ts wrong answer = choose (either (ltb (length ts) (leastCount rules)) (ltb (mostCount rules) (length ts))) wrong answer
+
 -- what is left after each operand in turn, or the operand that emptied the set
 pub data Narrowed : Type 0 where
   left : List Entry → Narrowed
@@ -50,6 +54,4 @@ afterOperands switch (emptied k) = noneAfter k
 afterOperands switch (left s) = first (concreteStep switch s)
 
 unfoldable pub resolve : Bool → List Signature → List ℕ → Choice
-resolve switch rules ts =
-    choose (either (ltb (length ts) (leastCount rules)) (ltb (mostCount rules) (length ts))) wrongCount
-    (afterOperands switch (narrow ts 0 (number 0 rules)))
+resolve switch rules ts = ifCounted rules ts wrongCount (afterOperands switch (narrow ts 0 (number 0 rules)))

@@ -1,6 +1,6 @@
 -- What a reader must believe of this crate.
 pub mod Choice
-pub mod Taking
 pub mod Call
 pub mod SurvivorsPaper
-pub mod Demand2
+pub mod private
+pub mod claims

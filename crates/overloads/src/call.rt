@@ -11,11 +11,16 @@ ghost use Rattle.scalars.specs.Mask.{bits};
 ghost use Rattle.lists.specs.Entry.{number};
 ghost use Rattle.overloads.specs.Choice.{narrow, resolve};
 ghost use Rattle.lists.specs.List.{signatures};
-ghost use Rattle.regular.specs.Regular.{Known, regularRules};
-ghost use Rattle.overloads.specs.Call.{answered, survivorsOf, survivorsAfter, maskAnswer, Callable, Full, rank, placeIn, preferredIn};
+ghost use Rattle.regular.specs.Regular.{regularRules};
+ghost use Rattle.regular.specs.private.Tested.{Known};
+ghost use Rattle.lists.specs.ChosenPaper.{chosenPaper};
+ghost use Rattle.overloads.specs.SurvivorsPaper.{survivorsPaper};
+ghost use Rattle.overloads.specs.Call.{answered, survivorsOf, survivorsAfter};
+ghost use Rattle.overloads.specs.private.CallSets.{maskAnswer, Callable, Full, rank, placeIn, preferredIn};
 use lists::Chosen;
 use lists::ChosenAnswer;
 use lists::List;
+use lists::RuleSet;
 use lists::expand;
 use lists::filter;
 use lists::longest;
@@ -35,7 +40,7 @@ pub enum Survivors {
 // then 1 where the concrete-only step leaves none.
 pub(crate) fn call_regular(set: Regular, operands: &[u8], switch: bool) -> ChosenAnswer
     requires { ⌜ Callable set ⌝ }
-    ensures { λ r. ⌜ r ≡ answered (resolve switch (regularRules set) (now (operands .entry))) ⌝ }
+    ensures { λ r. ⌜ chosenPaper r ≡ answered (resolve switch (regularRules set) (now (operands .entry))) ⌝ }
 {
     if operands.len() != (set.arity as usize) {
         return ChosenAnswer::Refused(Refusal::WrongCount(0));
@@ -58,7 +63,7 @@ pub(crate) fn call_regular(set: Regular, operands: &[u8], switch: bool) -> Chose
 // The first of the rules that are left of a set, with its index in the set's full listing. Refused 1 where none is left.
 fn preferred(set: Regular, left: Regular) -> ChosenAnswer
     requires { ⌜ Known set × Known left ⌝ }
-    ensures { λ r. ⌜ r ≡ preferredIn set (bits 13 (left .constructors .0)) (bits 12 (left .scalars .0)) ⌝ }
+    ensures { λ r. ⌜ chosenPaper r ≡ preferredIn set (bits 13 (left .constructors .0)) (bits 12 (left .scalars .0)) ⌝ }
 {
     if left.holds_none() {
         return ChosenAnswer::Refused(Refusal::EmptySet(0));
@@ -97,7 +102,7 @@ fn below(mask: u16, k: u32) -> u32
 // The rule that a List chooses: the first that survives. Refused as `survivors_list` is.
 pub(crate) fn call_list(list: List, operands: &[u8], switch: bool) -> ChosenAnswer
     requires { ⌜ Full list ⌝ }
-    ensures { λ r. ⌜ r ≡ answered (resolve switch (signatures list) (now (operands .entry))) ⌝ }
+    ensures { λ r. ⌜ chosenPaper r ≡ answered (resolve switch (signatures list) (now (operands .entry))) ⌝ }
 {
     match survivors_list(list, operands, switch) {
         Survivors::Refused(why) => ChosenAnswer::Refused(why),
@@ -115,7 +120,7 @@ pub(crate) fn call_list(list: List, operands: &[u8], switch: bool) -> ChosenAnsw
 // The rules of a Regular set that survive a call, by the List that it expands to. Refused as `survivors_list` is.
 pub(crate) fn survivors_regular(set: Regular, operands: &[u8], switch: bool) -> Survivors
     requires { ⌜ Callable set × (length (regularRules set) ≤ 63) ⌝ }
-    ensures { λ r. ⌜ r ≡ survivorsOf switch (regularRules set) (now (operands .entry)) ⌝ }
+    ensures { λ r. ⌜ survivorsPaper r ≡ survivorsOf switch (regularRules set) (now (operands .entry)) ⌝ }
 {
     let expanded = expand(set);
     let list = expanded.list;
@@ -126,7 +131,7 @@ pub(crate) fn survivors_regular(set: Regular, operands: &[u8], switch: bool) -> 
 // leaves no rule, then 1 where the concrete-only step leaves none.
 pub(crate) fn survivors_list(list: List, operands: &[u8], switch: bool) -> Survivors
     requires { ⌜ Full list ⌝ }
-    ensures { λ r. ⌜ r ≡ survivorsOf switch (signatures list) (now (operands .entry)) ⌝ }
+    ensures { λ r. ⌜ survivorsPaper r ≡ survivorsOf switch (signatures list) (now (operands .entry)) ⌝ }
 {
     match longest(list) {
         CountAnswer::Refused(why) => Survivors::Refused(why),
@@ -142,28 +147,28 @@ pub(crate) fn survivors_list(list: List, operands: &[u8], switch: bool) -> Survi
 // The rules of a List that take each operand in turn, and pass the switch.
 fn taken(list: List, operands: &[u8], switch: bool) -> Survivors
     requires { ⌜ Full list ⌝ }
-    ensures { λ r. ⌜ r ≡ survivorsAfter switch (narrow (now (operands .entry)) 0 (number 0 (signatures list))) ⌝ }
+    ensures { λ r. ⌜ survivorsPaper r ≡ survivorsAfter switch (narrow (now (operands .entry)) 0 (number 0 (signatures list))) ⌝ }
 {
-    let mut left = list;
+    let mut left = RuleSet(list.members);
     let mut i: usize = 0;
     while i < operands.len() {
-        left = filter(left, Keep::Argument(i, operands[i]));
-        if left.members == 0 {
+        left = filter(list, left, Keep::Argument(i, operands[i]));
+        if left.0 == 0 {
             return Survivors::Refused(Refusal::NoRuleLeft(1 + i));
         }
         i += 1;
     }
     if switch {
-        left = filter(left, Keep::Concrete);
-        return members(left.members);
+        return members(filter(list, left, Keep::Concrete));
     }
-    members(left.members)
+    members(left)
 }
 
 // The members that are left. Refused 1 where none is.
-fn members(mask: u64) -> Survivors
-    ensures { λ r. ⌜ r ≡ maskAnswer mask ⌝ }
+fn members(left: RuleSet) -> Survivors
+    ensures { λ r. ⌜ survivorsPaper r ≡ maskAnswer (left .0) ⌝ }
 {
+    let mask = left.0;
     if mask == 0 {
         return Survivors::Refused(Refusal::EmptySet(0));
     }

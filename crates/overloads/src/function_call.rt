@@ -2,6 +2,8 @@
 // the number of operands, each argument in turn, then the switch, then the preferred rule.
 
 ghost use mathlib.Core.Path.{_≡_};
+ghost use Rattle.lists.specs.ChosenPaper.{chosenPaper};
+ghost use Rattle.overloads.specs.SurvivorsPaper.{survivorsPaper};
 ghost use Rattle.overloads.specs.Call.{callOf, survivorsOfCall};
 ghost use Rattle.functions.specs.Functions.{functionCount, listingOf};
 use crate::call::Survivors;
@@ -21,7 +23,7 @@ use scalars::Refusal;
 // 0 for the function, at 1 + index for a type; 5 for the number of operands; 6 at 1 + index for the operand that leaves no rule; 1 where
 // the concrete-only switch leaves none.
 pub fn call_of(function: u8, operands: &[u8], switch: bool) -> ChosenAnswer
-    ensures { λ r. ⌜ r ≡ callOf functionCount listingOf switch function (now (operands .entry)) ⌝ }
+    ensures { λ r. ⌜ chosenPaper r ≡ callOf functionCount listingOf switch function (now (operands .entry)) ⌝ }
 {
     if FUNCTION_COUNT <= function {
         return ChosenAnswer::Refused(Refusal::Unknown(0));
@@ -39,7 +41,7 @@ pub fn call_of(function: u8, operands: &[u8], switch: bool) -> ChosenAnswer
 
 // The rules of the function's full listing that survive the call. Refused as `call_of` is.
 pub fn survivors_of(function: u8, operands: &[u8], switch: bool) -> Survivors
-    ensures { λ r. ⌜ r ≡ survivorsOfCall functionCount listingOf switch function (now (operands .entry)) ⌝ }
+    ensures { λ r. ⌜ survivorsPaper r ≡ survivorsOfCall functionCount listingOf switch function (now (operands .entry)) ⌝ }
 {
     if FUNCTION_COUNT <= function {
         return Survivors::Refused(Refusal::Unknown(0));

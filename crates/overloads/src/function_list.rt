@@ -7,7 +7,6 @@ use listed::Listed;
 use listed::listed_rule;
 use listed::rule_count;
 use lists::List;
-use lists::len_to_full_mask;
 use rules::Rule;
 
 // The List of a function, all its rules members.
@@ -21,10 +20,9 @@ pub fn list_of(listed: Listed) -> List
         rules[k as usize] = listed_rule(listed, k);
         k += 1;
     }
-    let len = n as usize;
     List {
         rules: rules,
-        len: len,
-        members: len_to_full_mask(len),
+        len: n as usize,
+        members: (1u64 << n) - 1,
     }
 }

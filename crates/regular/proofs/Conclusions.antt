@@ -13,18 +13,17 @@ use Rattle.scalars.specs.Mask.{choose, both, every}
 use Rattle.scalars.specs.Domain.{value?}
 use Rattle.rules.specs.Rule.{ruleOf}
 use Rattle.domain.specs.TypeCode.{predeclaredCode}
-use Rattle.regular.specs.Regular.{codesOf, concludedOf, concluded?, concludes, ruleFrom, ruleFor, signatureFor}
+use Rattle.scalars.specs.Paper.{Paper, accepted, refusal, values, refused}
+use Rattle.rules.specs.RulePaper.{ruleValues, noRule}
+use Rattle.rules.proofs.RulePapers.{ruleNamed}
+use Rattle.regular.specs.Regular.{codesOf, concludedOf, concluded?, ruleFrom, ruleFor, signatureFor}
 use Rattle.scalars.specs.declared.refusal.Refusal.{Refusal}
-use Rattle.scalars.specs.declared.refusal.Refusal.the-variants.{NoConclusion}
 use Rattle.regular.specs.declared.regular.ConclusionRule.{ConclusionRule}
 use Rattle.regular.specs.declared.regular.ConclusionRule.the-variants as conclusion
 use Rattle.regular.specs.declared.regular.Regular.{Regular}
 use Rattle.rules.specs.declared.rule.Rule.{Rule}
-use Rattle.rules.specs.declared.rule.RuleAnswer.the-variants as rule
-use Rattle.domain.specs.declared.type_code.CodeAnswer.{CodeAnswer}
-use Rattle.domain.specs.declared.type_code.CodeAnswer.the-variants as code
 use Rattle.scalars.proofs.Filters.{both-left, both-right}
-use Rattle.regular.proofs.RegularRules.{codes-values}
+use Rattle.regular.proofs.RegularRules.{codes-values, concludes}
 
 pub code-below : (r : Regular) (k : ℕ) → k < length (codesOf r) → getD (codesOf r) k 0 < 156
 code-below r k h = ltb-true _ 156 (at-each (codesOf r) k h (codes-values r))
@@ -36,40 +35,46 @@ code-below r k h = ltb-true _ 156 (at-each (codesOf r) k h (codes-values r))
 
 -- ---- a conclusion, or refusal 13
 
-concluded-or : (k s : ℕ) (first : ℕ) → k < 13 → s < 12 → (why : Refusal) → predeclaredCode first k s ≡ code.Refused why → why ≡ NoConclusion
+concluded-or : (k s : ℕ) (first : ℕ) → k < 13 → s < 12 → concluded? (predeclaredCode first k s) ≡ false → predeclaredCode first k s ≡ refusal 13 0 (255 ∷ [])
 unfolding predeclaredCode
-concluded-or k s first h l why e = go (both (ltb k 4) (both (leb 8 s) (leb s 10))) (sym (simp (lt-ltb k 13 h, lt-ltb s 12 l)) ∙ e)
+concluded-or k s first h l e = let q = simp (lt-ltb k 13 h, lt-ltb s 12 l) at e in simp (lt-ltb k 13 h, lt-ltb s 12 l) (go (both (ltb k 4) (both (leb 8 s) (leb s 10))) q)
   where
-    go : (b : Bool) → choose b (code.Code (first + k * 3 + (s - 8))) (code.Refused NoConclusion) ≡ code.Refused why → why ≡ NoConclusion
+    go : (b : Bool) → concluded? (choose b (accepted ((first + k * 3 + (s - 8)) ∷ [])) (refusal 13 0 (255 ∷ []))) ≡ false
+        → choose b (accepted ((first + k * 3 + (s - 8)) ∷ [])) (refusal 13 0 (255 ∷ [])) ≡ refusal 13 0 (255 ∷ [])
     go true e = let z : _≡_ {A = ℕ} 0 1 = cc in absurd (omega arith)
-    go false e = cc
+    go false e = refl
 
-pub only-thirteen : (c : ConclusionRule) (t : ℕ) → t < 156 → (why : Refusal) → concludedOf c t ≡ code.Refused why → why ≡ NoConclusion
+pub only-thirteen : (c : ConclusionRule) (t : ℕ) → t < 156 → concluded? (concludedOf c t) ≡ false → concludedOf c t ≡ refusal 13 0 (255 ∷ [])
 unfolding concludedOf
-only-thirteen conclusion.Frexp t h why e = concluded-or (t / 12) (t % 12) 169 (omega arith) (omega arith) why e
-only-thirteen conclusion.Modf t h why e = concluded-or (t / 12) (t % 12) 157 (omega arith) (omega arith) why e
-only-thirteen conclusion.ArgumentType t h why e = let z : _≡_ {A = ℕ} 0 1 = cc in absurd (omega arith)
-only-thirteen conclusion.Scalar t h why e = let z : _≡_ {A = ℕ} 0 1 = cc in absurd (omega arith)
-only-thirteen conclusion.U32 t h why e = let z : _≡_ {A = ℕ} 0 1 = cc in absurd (omega arith)
-only-thirteen conclusion.I32 t h why e = let z : _≡_ {A = ℕ} 0 1 = cc in absurd (omega arith)
-only-thirteen conclusion.Vec2F t h why e = let z : _≡_ {A = ℕ} 0 1 = cc in absurd (omega arith)
-only-thirteen conclusion.Vec4F t h why e = let z : _≡_ {A = ℕ} 0 1 = cc in absurd (omega arith)
-only-thirteen conclusion.Vec4I t h why e = let z : _≡_ {A = ℕ} 0 1 = cc in absurd (omega arith)
-only-thirteen conclusion.Vec4U t h why e = let z : _≡_ {A = ℕ} 0 1 = cc in absurd (omega arith)
+only-thirteen conclusion.Frexp t h e = concluded-or (t / 12) (t % 12) 169 (omega arith) (omega arith) e
+only-thirteen conclusion.Modf t h e = concluded-or (t / 12) (t % 12) 157 (omega arith) (omega arith) e
+only-thirteen conclusion.ArgumentType t h e = let z : _≡_ {A = ℕ} 0 1 = cc in absurd (omega arith)
+only-thirteen conclusion.Scalar t h e = let z : _≡_ {A = ℕ} 0 1 = cc in absurd (omega arith)
+only-thirteen conclusion.U32 t h e = let z : _≡_ {A = ℕ} 0 1 = cc in absurd (omega arith)
+only-thirteen conclusion.I32 t h e = let z : _≡_ {A = ℕ} 0 1 = cc in absurd (omega arith)
+only-thirteen conclusion.Vec2F t h e = let z : _≡_ {A = ℕ} 0 1 = cc in absurd (omega arith)
+only-thirteen conclusion.Vec4F t h e = let z : _≡_ {A = ℕ} 0 1 = cc in absurd (omega arith)
+only-thirteen conclusion.Vec4I t h e = let z : _≡_ {A = ℕ} 0 1 = cc in absurd (omega arith)
+only-thirteen conclusion.Vec4U t h e = let z : _≡_ {A = ℕ} 0 1 = cc in absurd (omega arith)
 
 module _ (r : Regular) (t : ℕ) where
-  pub rule-refused : t < 156 → (why : Refusal) → ruleFor r t ≡ rule.Refused why → (why ≡ NoConclusion) × (concludes r t ≡ false)
+  pub rule-refused : t < 156 → (why : Refusal) → ruleFor r t ≡ refused why noRule
+      → ((vs : List ℕ) → refused why vs ≡ refusal 13 0 vs) × (concludes r t ≡ false)
   unfolding ruleFor
   rule-refused h why e = go (concludedOf (r .conclude) t) refl e
     where
-      go : (a : CodeAnswer) → concludedOf (r .conclude) t ≡ a → ruleFrom (r .arity) t a ≡ rule.Refused why → (why ≡ NoConclusion) × (concluded? (concludedOf (r .conclude) t) ≡ false)
-      go (code.Code c) q e = let z : _≡_ {A = ℕ} 0 1 = cc in absurd (omega arith)
-      go (code.Refused w) q e = let f : w ≡ why = cc in (sym f ∙ only-thirteen (r .conclude) t h w q, ap concluded? q)
+      go : (p : Paper) → concludedOf (r .conclude) t ≡ p → ruleFrom (r .arity) t p ≡ refused why noRule
+          → ((vs : List ℕ) → refused why vs ≡ refusal 13 0 vs) × (concluded? (concludedOf (r .conclude) t) ≡ false)
+      go (accepted vs) q e = let z : _≡_ {A = ℕ} 0 1 = cc in absurd (omega arith)
+      go (refusal n p vs) q e =
+          let f = sym q ∙ only-thirteen (r .conclude) t h (ap concluded? q) in
+          (λ ws. cc, ap concluded? q)
 
-  pub rule-concluded : (x : Rule) → ruleFor r t ≡ rule.Rule x → (x ≡ ruleOf (signatureFor r t)) × (concludes r t ≡ true)
+  pub rule-concluded : (x : Rule) → ruleFor r t ≡ accepted (ruleValues x) → (x ≡ ruleOf (signatureFor r t)) × (concludes r t ≡ true)
   unfolding ruleFor
   rule-concluded x e = go (concludedOf (r .conclude) t) refl e
     where
-      go : (a : CodeAnswer) → concludedOf (r .conclude) t ≡ a → ruleFrom (r .arity) t a ≡ rule.Rule x → (x ≡ ruleOf (signatureFor r t)) × (concluded? (concludedOf (r .conclude) t) ≡ true)
-      go (code.Code c) q e = (rw q cc, ap concluded? q)
-      go (code.Refused w) q e = let z : _≡_ {A = ℕ} 0 1 = cc in absurd (omega arith)
+      go : (p : Paper) → concludedOf (r .conclude) t ≡ p → ruleFrom (r .arity) t p ≡ accepted (ruleValues x)
+          → (x ≡ ruleOf (signatureFor r t)) × (concluded? (concludedOf (r .conclude) t) ≡ true)
+      go (accepted vs) q e = (rw q (sym (ap (λ (p : Paper). ruleNamed (values p)) e)), ap concluded? q)
+      go (refusal n p vs) q e = let z : _≡_ {A = ℕ} 0 1 = cc in absurd (omega arith)

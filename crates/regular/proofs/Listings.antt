@@ -8,10 +8,12 @@ use lib.ListN.{length, getD, drop, replicate, length-map, List·getD-append, dro
 use lib.Seq.{sets}
 use Rattle.scalars.specs.Mask.{choose, both, every, padded}
 use Rattle.rules.specs.Rule.{blankRule, ruleOf}
-use Rattle.rules.specs.Listing.{acceptedListing, refusedListing}
-use Rattle.regular.specs.Regular.{codesOf, regularRules, signatureFor, codesFound, concludes, allConclude, concludedListing}
-use Rattle.scalars.specs.declared.answer.CountAnswer.the-variants.{Count}
-use Rattle.scalars.specs.declared.refusal.Refusal.the-variants.{NoConclusion}
+use Rattle.scalars.specs.Paper.{accepted, refusal}
+use Rattle.rules.specs.RulePaper.{rulesValues}
+use Rattle.rules.specs.Listing.{acceptedListing, noListing}
+use Rattle.regular.specs.Regular.{codesOf, regularRules, signatureFor, allConclude}
+use Rattle.regular.proofs.RegularRules.{concludes}
+use Rattle.regular.specs.private.Tested.{codesFound, concludedListing}
 use Rattle.regular.specs.declared.regular.Codes.{Codes}
 use Rattle.regular.specs.declared.regular.Regular.{Regular}
 use Rattle.rules.specs.declared.rule.Rule.{Rule}
@@ -47,10 +49,10 @@ module _ (r : Regular) (k : ℕ) (h : k < length (codesOf r)) where
   concludes-next c left = sym (ap (every (concludes r)) (from-here (codesOf r) k h) ∙ ap (λ (b : Bool). both b (every (concludes r) (drop (k + 1) (codesOf r)))) c) ∙ left
 
   pub concludes-not : concludes r (getD (codesOf r) k 0) ≡ false → every (concludes r) (drop k (codesOf r)) ≡ allConclude r
-      → refusedListing NoConclusion ≡ concludedListing r
+      → refusal 13 0 noListing ≡ concludedListing r
   unfolding concludedListing
   concludes-not c left =
-      sym (ap (λ (b : Bool). choose b (acceptedListing (regularRules r)) (refusedListing NoConclusion))
+      sym (ap (λ (b : Bool). choose b (acceptedListing (regularRules r)) (refusal 13 0 noListing))
       (sym left ∙ ap (every (concludes r)) (from-here (codesOf r) k h) ∙ ap (λ (b : Bool). both b (every (concludes r) (drop (k + 1) (codesOf r)))) c))
 
 twice : (r : Regular) (ts : List ℕ) → map (λ t. ruleOf (signatureFor r t)) ts ≡ map ruleOf (map (signatureFor r) ts)
@@ -72,10 +74,10 @@ listing-starts r {a} e =
 pub listing-ends : (r : Regular) (k n : ℕ) (a : List Rule) → length (codesOf r) ≤ k → n ≡ length (codesOf r)
     → every (concludes r) (drop k (codesOf r)) ≡ allConclude r
     → sets a k (map (λ t. ruleOf (signatureFor r t)) (drop k (codesOf r))) ≡ padded 156 blankRule (map ruleOf (regularRules r))
-    → record { answer = Count n; rules = a } ≡ concludedListing r
+    → accepted (n ∷ rulesValues a) ≡ concludedListing r
 unfolding concludedListing acceptedListing
 listing-ends r k n a h e c s =
     let none : drop k (codesOf r) ≡ [] = drop-of-length-le (codesOf r) h in
-    ap₂ (λ (m : ℕ) (b : List Rule). record { answer = Count m; rules = b }) (e ∙ sym (rules-count r))
+    ap₂ (λ (m : ℕ) (b : List Rule). accepted (m ∷ rulesValues b)) (e ∙ sym (rules-count r))
     (sym (ap (λ (ts : List ℕ). sets a k (map (λ t. ruleOf (signatureFor r t)) ts)) none) ∙ s)
-    ∙ sym (ap (λ (b : Bool). choose b (acceptedListing (regularRules r)) (refusedListing NoConclusion)) (sym c ∙ ap (every (concludes r)) none))
+    ∙ sym (ap (λ (b : Bool). choose b (acceptedListing (regularRules r)) (refusal 13 0 noListing)) (sym c ∙ ap (every (concludes r)) none))

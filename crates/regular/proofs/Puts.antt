@@ -6,7 +6,7 @@ use Prim.Native.Nat.{ℕ, suc, _+_, _≤_}
 use native.Mathlib.Nat.{add-zero, zero-add, add-suc, suc-add, add-assoc}
 use lib.ListN.{length, replicate, length-append}
 use lib.Seq.{sets, length-sets}
-use Rattle.regular.specs.Regular.{put, codesFound}
+use Rattle.regular.specs.private.Tested.{put, codesFound}
 use Rattle.regular.specs.declared.regular.Codes.{Codes}
 use Rattle.scalars.proofs.Fills.{filled}
 

@@ -11,14 +11,20 @@ use borrow.Author.Tests.{lt-ltb, le-leb, ltb-true}
 use Rattle.scalars.specs.Mask.{either, every, bits, upTo}
 use Rattle.scalars.specs.Domain.{scalars, constructors, value?, known?}
 use Rattle.domain.specs.TypeCode.{predeclaredCode}
-use Rattle.rules.specs.Rule.{short?, typed?}
-use Rattle.regular.specs.Regular.{Known, pairs, codesOf, signatureFor, regularRules, concludedOf, concluded?, codeIn, allConclude}
+use Rattle.rules.proofs.Records.{short?, typed?}
+use Rattle.scalars.specs.Paper.{value}
+use Rattle.regular.specs.Regular.{pairs, codesOf, signatureFor, regularRules, concludedOf, concluded?, allConclude}
+use Rattle.regular.specs.private.Tested.{Known}
 use Rattle.regular.specs.declared.regular.ConclusionRule.{ConclusionRule}
 use Rattle.regular.specs.declared.regular.ConclusionRule.the-variants.{ArgumentType, Scalar, Frexp, Modf, U32, I32, Vec2F, Vec4F, Vec4I, Vec4U}
 use Rattle.regular.specs.declared.regular.Regular.{Regular}
 use Rattle.scalars.proofs.Table as table
 use Rattle.scalars.proofs.Filters.{both-left, both-right, both-true}
 use Rattle.regular.proofs.RegularCodes.{every-select}
+
+-- the rule of an argument type has a conclusion
+abbrev pub concludes : Regular → ℕ → Bool
+concludes r t = concluded? (concludedOf (r .conclude) t)
 
 -- ---- every argument type is a value type
 
@@ -48,7 +54,7 @@ codes-values r =
 
 -- tested at each of the 156 value types
 abbrev known-or-none : ConclusionRule → ℕ → Bool
-known-or-none c t = either (not (concluded? (concludedOf c t))) (known? (codeIn (concludedOf c t)))
+known-or-none c t = either (not (concluded? (concludedOf c t))) (known? (value 0 (concludedOf c t)))
 
 each-known : (c : ConclusionRule) → T (table.every (λ t x. known-or-none c t) 0 (upTo 156))
 unfolding concludedOf predeclaredCode
@@ -63,9 +69,9 @@ each-known Vec4F = tt
 each-known Vec4I = tt
 each-known Vec4U = tt
 
-pub conclusion-known : (c : ConclusionRule) (t : ℕ) → value? t ≡ true → concluded? (concludedOf c t) ≡ true → known? (codeIn (concludedOf c t)) ≡ true
+pub conclusion-known : (c : ConclusionRule) (t : ℕ) → value? t ≡ true → concluded? (concludedOf c t) ≡ true → known? (value 0 (concludedOf c t)) ≡ true
 conclusion-known c t v e =
-    go (known? (codeIn (concludedOf c t))) (simp e at (table.at (λ t x. known-or-none c t) (upTo 156) (each-known c) t (ltb-true _ _ v)))
+    go (known? (value 0 (concludedOf c t))) (simp e at (table.at (λ t x. known-or-none c t) (upTo 156) (each-known c) t (ltb-true _ _ v)))
   where
     go : (b : Bool) → T b → b ≡ true
     go true h = refl

@@ -10,10 +10,12 @@ use lib.Dec.{lit≤, lit<}
 use lib.ListN.{replicate}
 use Rattle.scalars.specs.Mask.{both, filter, bits}
 use Rattle.scalars.specs.Domain.{abstract?, isAbstract}
-use Rattle.rules.specs.Signature.{reaches, takesAt, takes, allConcrete, concrete}
+use Rattle.rules.specs.Signature.{reaches, takesAt, takes, concrete}
+use Rattle.rules.proofs.Records.{allConcrete}
 use Rattle.scalars.specs.Scalar.{scalarsThat}
 use Rattle.domain.specs.Constructor.{singletonOfCode}
-use Rattle.regular.specs.Regular.{Known, codesOf, signatureFor, regularRules, emptyRegular, narrowed, concreteSet, reachedScalars}
+use Rattle.regular.specs.Regular.{codesOf, signatureFor, regularRules, emptyRegular, narrowed, concreteSet, reachedScalars}
+use Rattle.regular.specs.private.Tested.{Known}
 use Rattle.regular.specs.declared.regular.Regular.{Regular}
 use Rattle.scalars.proofs.Filters.{both-comm, filter-same, filter-none, filter-map}
 use Rattle.regular.proofs.RegularCodes.{narrowed-codes, concrete-codes}

@@ -9,17 +9,15 @@ use lib.Count.{trailingZeros, ones}
 use lib.Dec.{eqb, leb, ltb, lit≤}
 use lib.ListN.{length, length-map, length-append, length-replicate}
 use borrow.Author.Tests.{ltb-true, leb-true, lt-ltb, le-leb, eqb-true, eqb-false}
-use Rattle.scalars.specs.Mask.{choose, both, either, isOne, bits}
+use Rattle.scalars.specs.Mask.{choose, both, either, bits}
 use Rattle.rules.specs.Verdict.{longest, emptyOf, countOf}
-use Rattle.regular.specs.Regular.{Known, pairs, codesOf, regularRules, signatureFor, regularVerdict, regularRule, emptySet?, preferredAmong, ruleFor}
-use Rattle.scalars.specs.declared.answer.Verdict.the-variants.{Accepted, Refused}
-use Rattle.scalars.specs.declared.answer.Test.the-variants.{Yes, No}
-use Rattle.scalars.specs.declared.answer.CountAnswer.the-variants as count
-use Rattle.scalars.specs.declared.refusal.Refusal.the-variants.{EmptySet, SeveralConstructors, TooMany, Unknown}
+use Rattle.regular.specs.Regular.{pairs, codesOf, regularRules, signatureFor, regularVerdict, regularRule, emptySet?, preferredAmong, ruleFor}
+use Rattle.regular.specs.private.Tested.{Known}
+use Rattle.scalars.specs.Paper.{accepted, refusal}
+use Rattle.rules.specs.RulePaper.{noRule}
 use Rattle.regular.specs.declared.regular.Regular.{Regular}
-use Rattle.rules.specs.declared.rule.RuleAnswer.the-variants as rule
 use Rattle.scalars.proofs.Masks.{trailing-lt}
-use Rattle.domain.proofs.Constructors.{only-one, several}
+use Rattle.domain.proofs.Constructors.{isOne, only-one, several}
 use Rattle.scalars.proofs.Bits.{bits-first, bits-none, bits-length, bits-count}
 
 -- ---- pairs of constructors and scalars
@@ -41,18 +39,38 @@ pairs-most c s =
 
 -- ---- a set that is accepted is within its bounds
 
-pub accepted-known : (r : Regular) → regularVerdict r ≡ Accepted → Known r
+pub accepted-known : (r : Regular) → regularVerdict r ≡ accepted [] → Known r
 unfolding regularVerdict
 accepted-known r e = go (ltb (r .constructors .0) (2 ^ 13)) (ltb (r .scalars .0) (2 ^ 12)) (leb (r .arity) 4) refl refl refl e
   where
     go : (x y z : Bool) → ltb (r .constructors .0) (2 ^ 13) ≡ x → ltb (r .scalars .0) (2 ^ 12) ≡ y → leb (r .arity) 4 ≡ z
-        → choose (both x y) (choose z Accepted (Refused TooMany)) (Refused (Unknown 0)) ≡ Accepted → Known r
+        → choose (both x y) (choose z (accepted []) (refusal 3 0 [])) (refusal 7 0 []) ≡ accepted [] → Known r
     go true true true a b c f = record { constructors = ltb-true _ _ a; scalars = ltb-true _ _ b; arity = leb-true _ _ c }
     go true true false a b c f = let z : _≡_ {A = ℕ} 0 1 = cc in absurd (omega arith)
     go true false z a b c f = let z : _≡_ {A = ℕ} 0 1 = cc in absurd (omega arith)
     go false y z a b c f = let z : _≡_ {A = ℕ} 0 1 = cc in absurd (omega arith)
 
-pub known-accepted : (r : Regular) → Known r → regularVerdict r ≡ Accepted
+-- the same of an acceptance with any values; a refusal has a number
+pub accepted-verdict : (r : Regular) {vs : List ℕ} → regularVerdict r ≡ accepted vs → Known r
+unfolding regularVerdict
+accepted-verdict r e = accepted-known r (go (both (ltb (r .constructors .0) (2 ^ 13)) (ltb (r .scalars .0) (2 ^ 12))) (leb (r .arity) 4) e)
+  where
+    go : (x y : Bool) {vs : List ℕ} → choose x (choose y (accepted []) (refusal 3 0 [])) (refusal 7 0 []) ≡ accepted vs
+        → choose x (choose y (accepted []) (refusal 3 0 [])) (refusal 7 0 []) ≡ accepted []
+    go true true e = refl
+    go true false e = let z : _≡_ {A = ℕ} 0 1 = cc in absurd (omega arith)
+    go false y e = let z : _≡_ {A = ℕ} 0 1 = cc in absurd (omega arith)
+
+pub refused-some : (r : Regular) {n p : ℕ} {vs : List ℕ} → regularVerdict r ≡ refusal n p vs → n ≡ 0 → ⊥
+unfolding regularVerdict
+refused-some r {n} e z = go (both (ltb (r .constructors .0) (2 ^ 13)) (ltb (r .scalars .0) (2 ^ 12))) (leb (r .arity) 4) e
+  where
+    go : (x y : Bool) {p : ℕ} {vs : List ℕ} → choose x (choose y (accepted []) (refusal 3 0 [])) (refusal 7 0 []) ≡ refusal n p vs → ⊥
+    go true true e = let z : _≡_ {A = ℕ} 0 1 = cc in absurd (omega arith)
+    go true false e = let k : 3 ≡ n = cc in absurd (omega arith)
+    go false y e = let k : 7 ≡ n = cc in absurd (omega arith)
+
+pub known-accepted : (r : Regular) → Known r → regularVerdict r ≡ accepted []
 unfolding regularVerdict
 known-accepted r known =
     simp (lt-ltb (r .constructors .0) (2 ^ 13) (known .constructors), lt-ltb (r .scalars .0) (2 ^ 12) (known .scalars), le-leb (r .arity) 4 (known .arity))
@@ -103,15 +121,15 @@ codes-first r known e =
 
 -- ---- emptiness and counts of the listing
 
-pub empty-yes : (r : Regular) → emptySet? r ≡ true → emptyOf (regularRules r) ≡ Yes
+pub empty-yes : (r : Regular) → emptySet? r ≡ true → emptyOf (regularRules r) ≡ accepted (1 ∷ [])
 unfolding regularRules
 empty-yes r e = ap (λ (ts : List ℕ). emptyOf (map (signatureFor r) ts)) (codes-none r e)
 
-pub empty-no : (r : Regular) → Known r → emptySet? r ≡ false → emptyOf (regularRules r) ≡ No
+pub empty-no : (r : Regular) → Known r → emptySet? r ≡ false → emptyOf (regularRules r) ≡ accepted (0 ∷ [])
 unfolding regularRules
 empty-no r known e = ap (λ (ts : List ℕ). emptyOf (map (signatureFor r) ts)) (codes-first r known e .1)
 
-pub count-none : (r : Regular) → emptySet? r ≡ true → countOf (regularRules r) ≡ count.Refused (EmptySet 0)
+pub count-none : (r : Regular) → emptySet? r ≡ true → countOf (regularRules r) ≡ refusal 1 0 (255 ∷ [])
 unfolding regularRules
 count-none r e = ap (λ (ts : List ℕ). countOf (map (signatureFor r) ts)) (codes-none r e)
 
@@ -120,23 +138,23 @@ pub longest-arity : (r : Regular) (t : ℕ) (ts : List ℕ) → longest (map (si
 longest-arity r t [] = omega (arith, length-replicate (r .arity) t)
 longest-arity r t (u ∷ ts) = omega (arith, length-replicate (r .arity) t, longest-arity r u ts)
 
-pub count-some : (r : Regular) → Known r → emptySet? r ≡ false → countOf (regularRules r) ≡ count.Count (r .arity)
+pub count-some : (r : Regular) → Known r → emptySet? r ≡ false → countOf (regularRules r) ≡ accepted (r .arity ∷ [])
 unfolding regularRules
 count-some r known e =
     let f = codes-first r known e in
-    ap (λ (ts : List ℕ). countOf (map (signatureFor r) ts)) (f .1) ∙ ap count.Count (longest-arity r (lowestCode r) (f .0))
+    ap (λ (ts : List ℕ). countOf (map (signatureFor r) ts)) (f .1) ∙ ap (λ (n : ℕ). accepted (n ∷ [])) (longest-arity r (lowestCode r) (f .0))
 
 -- ---- the preferred rule
 
-pub preferred-none : (r : Regular) → emptySet? r ≡ true → rule.Refused (EmptySet 0) ≡ preferredAmong r (bits 13 (r .constructors .0)) (bits 12 (r .scalars .0))
+pub preferred-none : (r : Regular) → emptySet? r ≡ true → refusal 1 0 noRule ≡ preferredAmong r (bits 13 (r .constructors .0)) (bits 12 (r .scalars .0))
 unfolding emptySet?
 preferred-none r e = go (eqb (r .constructors .0) 0) (eqb (r .scalars .0) 0) refl refl e
   where
-    either-way : (ks : List ℕ) → preferredAmong r ks [] ≡ rule.Refused (EmptySet 0)
+    either-way : (ks : List ℕ) → preferredAmong r ks [] ≡ refusal 1 0 noRule
     either-way [] = refl
     either-way (k ∷ ks) = refl
 
-    go : (x y : Bool) → eqb (r .constructors .0) 0 ≡ x → eqb (r .scalars .0) 0 ≡ y → either x y ≡ true → rule.Refused (EmptySet 0) ≡ preferredAmong r (bits 13 (r .constructors .0)) (bits 12 (r .scalars .0))
+    go : (x y : Bool) → eqb (r .constructors .0) 0 ≡ x → eqb (r .scalars .0) 0 ≡ y → either x y ≡ true → refusal 1 0 noRule ≡ preferredAmong r (bits 13 (r .constructors .0)) (bits 12 (r .scalars .0))
     go true y a b f = sym (ap (λ (ks : List ℕ). preferredAmong r ks (bits 12 (r .scalars .0))) (ap (bits 13) (eqb-true _ _ a) ∙ bits-none 13))
     go false true a b f = sym (ap (preferredAmong r (bits 13 (r .constructors .0))) (ap (bits 12) (eqb-true _ _ b) ∙ bits-none 12) ∙ either-way (bits 13 (r .constructors .0)))
     go false false a b f = let z : _≡_ {A = ℕ} 0 1 = cc in absurd (omega arith)
@@ -148,7 +166,7 @@ module _ (r : Regular) (known : Known r) (e : emptySet? r ≡ false) where
       let p = some-first r e in
       sym (ap₂ (preferredAmong r) (only-one (r .constructors .0) (p .0) (known .constructors) o) (bits-first 16 12 (r .scalars .0) (lit≤ tt) (p .1) (known .scalars)))
 
-  pub preferred-several : isOne (bits 16 (r .constructors .0)) ≡ false → rule.Refused SeveralConstructors ≡ preferredAmong r (bits 13 (r .constructors .0)) (bits 12 (r .scalars .0))
+  pub preferred-several : isOne (bits 16 (r .constructors .0)) ≡ false → refusal 2 0 noRule ≡ preferredAmong r (bits 13 (r .constructors .0)) (bits 12 (r .scalars .0))
   preferred-several o =
       let p = some-first r e in
       sym (ap₂ (preferredAmong r) (several (r .constructors .0) (p .0) (known .constructors) o .2) (bits-first 16 12 (r .scalars .0) (lit≤ tt) (p .1) (known .scalars)))

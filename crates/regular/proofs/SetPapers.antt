@@ -1,31 +1,26 @@
 -- The paper's numbers determine each answer about a Regular set: two answers with the same number, place and values are equal.
 -- Assumes nothing.
-use mathlib.Core.Path.{_≡_, refl, ap}
-use mathlib.Core.List.{[], _∷_}
+use mathlib.Core.Path.{_≡_, refl, sym, ap, _∙_}
+use mathlib.Core.List.{List}
 use Prim.Native.Nat.{ℕ}
-use lib.Dec.{eqb}
 use lib.ListN.{getD}
-use Rattle.scalars.specs.Mask.{choose}
-use Rattle.regular.specs.SetPaper.{regularPaper, conclusionNumber}
+use Rattle.scalars.specs.Paper.{Paper, values}
+use Rattle.regular.specs.SetPaper.{setPaper, regularPaper, regularValues, noSet, conclusionNumber, conclusionOf}
 use Rattle.scalars.proofs.Papers.{read, reads-refused, one-to-one}
 use Rattle.regular.specs.declared.regular.ConclusionRule.{ConclusionRule}
 use Rattle.regular.specs.declared.regular.ConclusionRule.the-variants as conclusion
+use Rattle.regular.specs.declared.regular.Regular.{Regular}
 use Rattle.regular.specs.declared.regular.RegularAnswer.{RegularAnswer}
 use Rattle.regular.specs.declared.regular.RegularAnswer.the-variants as regular
 
--- the conclusion of a number
-pub conclusionOf : ℕ → ConclusionRule
-conclusionOf n =
-    choose (eqb n 0) conclusion.ArgumentType
-    (choose (eqb n 1) conclusion.Scalar
-    (choose (eqb n 2) conclusion.Frexp
-    (choose (eqb n 3) conclusion.Modf
-    (choose (eqb n 4) conclusion.U32
-    (choose (eqb n 5) conclusion.I32
-    (choose (eqb n 6) conclusion.Vec2F
-    (choose (eqb n 7) conclusion.Vec4F
-    (choose (eqb n 8) conclusion.Vec4I
-    conclusion.Vec4U))))))))
+-- the set that these values name
+abbrev pub setNamed : List ℕ → Regular
+setNamed vs = record {
+  arity = getD vs 0 0;
+  constructors = record { 0 = getD vs 1 0 };
+  scalars = record { 0 = getD vs 2 0 };
+  conclude = conclusionOf (getD vs 3 0);
+}
 
 pub conclusion-back : (c : ConclusionRule) → conclusionOf (conclusionNumber c) ≡ c
 unfolding conclusionOf
@@ -40,11 +35,17 @@ conclusion-back conclusion.Vec4F = refl
 conclusion-back conclusion.Vec4I = refl
 conclusion-back conclusion.Vec4U = refl
 
-regular-back : (a : RegularAnswer) → read (λ vs. regular.Set (record { arity = getD vs 0 0; constructors = record { 0 = getD vs 1 0 }; scalars = record { 0 = getD vs 2 0 }; conclude = conclusionOf (getD vs 3 0) })) regular.Refused (regularPaper a) ≡ a
+pub set-back : (r : Regular) → setNamed (regularValues r) ≡ r
+set-back r =
+    ap (λ (c : ConclusionRule). record { arity = r .arity; constructors = r .constructors; scalars = r .scalars; conclude = c }) (conclusion-back (r .conclude))
+
+pub set-one : (a b : Regular) → setPaper a ≡ setPaper b → a ≡ b
+set-one a b e = sym (set-back a) ∙ ap (λ (p : Paper). setNamed (values p)) e ∙ set-back b
+
+regular-back : (a : RegularAnswer) → read (λ vs. regular.Set (setNamed vs)) regular.Refused (regularPaper a) ≡ a
 unfolding read
-regular-back (regular.Set r) =
-    ap (λ (c : ConclusionRule). regular.Set (record { arity = r .arity; constructors = r .constructors; scalars = r .scalars; conclude = c })) (conclusion-back (r .conclude))
-regular-back (regular.Refused why) = reads-refused (λ vs. regular.Set (record { arity = getD vs 0 0; constructors = record { 0 = getD vs 1 0 }; scalars = record { 0 = getD vs 2 0 }; conclude = conclusionOf (getD vs 3 0) })) regular.Refused why (0 ∷ 0 ∷ 0 ∷ 0 ∷ [])
+regular-back (regular.Set r) = ap regular.Set (set-back r)
+regular-back (regular.Refused why) = reads-refused (λ vs. regular.Set (setNamed vs)) regular.Refused why noSet
 
 pub regular-one : (a b : RegularAnswer) → regularPaper a ≡ regularPaper b → a ≡ b
-regular-one = one-to-one regularPaper (read (λ vs. regular.Set (record { arity = getD vs 0 0; constructors = record { 0 = getD vs 1 0 }; scalars = record { 0 = getD vs 2 0 }; conclude = conclusionOf (getD vs 3 0) })) regular.Refused) regular-back
+regular-one = one-to-one regularPaper (read (λ vs. regular.Set (setNamed vs)) regular.Refused) regular-back

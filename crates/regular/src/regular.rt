@@ -7,7 +7,12 @@ ghost use mathlib.Core.Path.{_≡_};
 ghost use mathlib.Core.List.{map};
 ghost use Prim.Native.Nat.{_+_, _*_, _<_, _≤_};
 ghost use Rattle.scalars.specs.Mask.{bits};
-ghost use Rattle.regular.specs.Regular.{Known, regularVerdict, regularEmpty, regularCount, regularArg, regularConcrete, regularPreferred, regularRule, regularListing, regularAllowed, emptySet?, narrowed, concreteSet, reachedScalars, concludedOf, ruleFor, codesOf, codesFound, concludedListing, RowFits, put};
+ghost use Rattle.scalars.specs.Paper.{verdictPaper, testPaper, countPaper};
+ghost use Rattle.domain.specs.TypePaper.{codePaper};
+ghost use Rattle.rules.specs.RulePaper.{rulePaper, listingPaper, typesPaper};
+ghost use Rattle.regular.specs.SetPaper.{setPaper, regularPaper};
+ghost use Rattle.regular.specs.Regular.{regularVerdict, regularEmpty, regularCount, regularArg, regularConcrete, regularPreferred, regularRule, regularListing, regularAllowed, emptySet?, narrowed, concreteSet, reachedScalars, concludedOf, ruleFor, codesOf};
+ghost use Rattle.regular.specs.private.Tested.{codesFound, RowFits, put, Known, concludedListing};
 use domain::CodeAnswer;
 use domain::Constructor;
 use domain::ConstructorSet;
@@ -73,7 +78,7 @@ impl Regular {
 
     // Whether the set is one: refused 7 for an unknown bit, then 3 for more than four arguments.
     pub fn verdict(self) -> Verdict
-        ensures { λ r. ⌜ r ≡ regularVerdict self ⌝ }
+        ensures { λ r. ⌜ verdictPaper r ≡ regularVerdict self ⌝ }
     {
         if ConstructorSet::ALL < self.constructors.0 {
             return Verdict::Refused(Refusal::Unknown(0));
@@ -89,7 +94,7 @@ impl Regular {
 
     // Whether the set has no rule. Refused as the set is.
     pub fn is_empty(self) -> Test
-        ensures { λ r. ⌜ r ≡ regularEmpty self ⌝ }
+        ensures { λ r. ⌜ testPaper r ≡ regularEmpty self ⌝ }
     {
         if let Verdict::Refused(why) = self.verdict() {
             return Test::Refused(why);
@@ -112,14 +117,14 @@ impl Regular {
 
     // The least number of arguments. Refused as the set is, then 1 where it has no rule.
     pub fn min_arguments(self) -> CountAnswer
-        ensures { λ r. ⌜ r ≡ regularCount self ⌝ }
+        ensures { λ r. ⌜ countPaper r ≡ regularCount self ⌝ }
     {
         self.max_arguments()
     }
 
     // The most arguments. Refused as the set is, then 1 where it has no rule.
     pub fn max_arguments(self) -> CountAnswer
-        ensures { λ r. ⌜ r ≡ regularCount self ⌝ }
+        ensures { λ r. ⌜ countPaper r ≡ regularCount self ⌝ }
     {
         if let Verdict::Refused(why) = self.verdict() {
             return CountAnswer::Refused(why);
@@ -133,7 +138,7 @@ impl Regular {
     // The rules that take the type at an argument: its own constructor, and the scalars that its scalar converts to. At or above the
     // arity, EMPTY itself. Refused 7 for a type code above 180, then as the set is.
     pub fn arg(self, i: usize, t: u8) -> RegularAnswer
-        ensures { λ r. ⌜ r ≡ regularArg i t self ⌝ }
+        ensures { λ r. ⌜ regularPaper r ≡ regularArg i t self ⌝ }
     {
         if LAST_CODE < t {
             return RegularAnswer::Refused(Refusal::Unknown(0));
@@ -149,7 +154,7 @@ impl Regular {
 
     // Both masks anded with what a type allows; arity and conclusion are kept, also where nothing is left.
     pub fn narrow(self, t: u8) -> Regular
-        ensures { λ r. ⌜ r ≡ narrowed t self ⌝ }
+        ensures { λ r. ⌜ setPaper r ≡ setPaper (narrowed t self) ⌝ }
     {
         let constructors = self.constructors.meet(ConstructorSet::singleton(t));
         let scalars = self.scalars.meet(reached_scalars(t));
@@ -164,7 +169,7 @@ impl Regular {
 
     // The rules without an abstract argument. Refused as the set is.
     pub fn concrete_only(self) -> RegularAnswer
-        ensures { λ r. ⌜ r ≡ regularConcrete self ⌝ }
+        ensures { λ r. ⌜ regularPaper r ≡ regularConcrete self ⌝ }
     {
         if let Verdict::Refused(why) = self.verdict() {
             return RegularAnswer::Refused(why);
@@ -174,7 +179,7 @@ impl Regular {
 
     // The concrete scalars alone.
     pub fn concrete(self) -> Regular
-        ensures { λ r. ⌜ r ≡ concreteSet self ⌝ }
+        ensures { λ r. ⌜ setPaper r ≡ setPaper (concreteSet self) ⌝ }
     {
         let constructors = self.constructors;
         let scalars = self.scalars.meet(ScalarSet::CONCRETE);
@@ -190,7 +195,7 @@ impl Regular {
     // The first rule, where one constructor is left. Refused as the set is, 1 where it has no rule, 2 with several constructors, then
     // 13 where the rule has no conclusion.
     pub fn most_preferred(self) -> RuleAnswer
-        ensures { λ r. ⌜ r ≡ regularPreferred self ⌝ }
+        ensures { λ r. ⌜ rulePaper r ≡ regularPreferred self ⌝ }
     {
         if let Verdict::Refused(why) = self.verdict() {
             return RuleAnswer::Refused(why);
@@ -209,7 +214,7 @@ impl Regular {
     // The rule whose arguments have the type. Refused 7 for a code that is no value type, then as the set is, then 13 where the rule has
     // no conclusion.
     pub fn rule_of(self, t: u8) -> RuleAnswer
-        ensures { λ r. ⌜ r ≡ regularRule t self ⌝ }
+        ensures { λ r. ⌜ rulePaper r ≡ regularRule t self ⌝ }
     {
         if VALUES <= t {
             return RuleAnswer::Refused(Refusal::Unknown(0));
@@ -223,19 +228,26 @@ impl Regular {
     // The same in a tested set, of a value type.
     fn rule(self, t: u8) -> RuleAnswer
         requires { ⌜ (self .arity ≤ 4) × (t < 156) ⌝ }
-        ensures { λ r. ⌜ r ≡ ruleFor self t ⌝ }
+        ensures { λ r. ⌜ rulePaper r ≡ ruleFor self t ⌝ }
     {
         let n = self.arity;
         let conclusion = self.conclude;
         match conclusion.conclude(t) {
             CodeAnswer::Refused(why) => RuleAnswer::Refused(why),
-            CodeAnswer::Code(result) => RuleAnswer::Rule(Rule::uniform(n, t, result)),
+            CodeAnswer::Code(result) => RuleAnswer::Rule(Rule {
+                a0: t,
+                a1: t,
+                a2: t,
+                a3: t,
+                count: n,
+                result: result,
+            }.cleaned()),
         }
     }
 
     // All rules in order. Refused as the set is, then 13 where some rule has no conclusion.
     pub fn overload_list(self) -> Listing
-        ensures { λ r. ⌜ r ≡ regularListing self ⌝ }
+        ensures { λ r. ⌜ listingPaper r ≡ regularListing self ⌝ }
     {
         if let Verdict::Refused(why) = self.verdict() {
             return no_listing(why);
@@ -245,7 +257,7 @@ impl Regular {
 
     // The types that an argument may have, in order; none at or above the arity. Refused as the set is.
     pub fn allowed_args(self, i: usize) -> AllowedArgs
-        ensures { λ r. ⌜ r ≡ regularAllowed i self ⌝ }
+        ensures { λ r. ⌜ typesPaper r ≡ regularAllowed i self ⌝ }
     {
         if let Verdict::Refused(why) = self.verdict() {
             return no_types(why);
@@ -267,7 +279,7 @@ impl Regular {
     // The rules of a tested set, in order; refused 13 where one has no conclusion.
     fn listed(self) -> Listing
         requires { ⌜ Known self ⌝ }
-        ensures { λ r. ⌜ r ≡ concludedListing self ⌝ }
+        ensures { λ r. ⌜ listingPaper r ≡ concludedListing self ⌝ }
     {
         let found = self.codes();
         let codes = found.codes;
@@ -353,7 +365,7 @@ impl ConclusionRule {
     // The result type of a rule whose arguments have the type. Refused 13 where Frexp and Modf have no result.
     fn conclude(self, t: u8) -> CodeAnswer
         requires { ⌜ t < 156 ⌝ }
-        ensures { λ r. ⌜ r ≡ concludedOf self t ⌝ }
+        ensures { λ r. ⌜ codePaper r ≡ concludedOf self t ⌝ }
     {
         let constructor = Constructor(t / 12);
         let scalar = Scalar(t % 12);

@@ -5,6 +5,8 @@ use crate::set_answers::allowed_agrees;
 use functions::FunctionSet;
 use functions::function_set;
 use overloads::list_of;
+use scalars::Verdict;
+use sets::AnyAnswer;
 use sets::AnyOverloadSet;
 
 // Whether the types that the function's full set allows there are the stored ones.
@@ -16,11 +18,21 @@ pub fn agrees(record: &[u8]) -> bool {
     let stored = &record[2..];
     match function_set(record[0]) {
         FunctionSet::Unknown => false,
-        FunctionSet::Regular(set) => allowed_agrees(AnyOverloadSet::from_regular(set), i, stored),
-        FunctionSet::List(listed) => allowed_agrees(
+        FunctionSet::Regular(set) => set_agrees(AnyOverloadSet::from_regular(set), i, stored),
+        FunctionSet::List(listed) => set_agrees(
             AnyOverloadSet::from_list(list_of(listed)),
             i,
             stored,
         ),
+    }
+}
+
+// Whether the set is accepted and allows the stored types.
+fn set_agrees(made: AnyAnswer, i: usize, stored: &[u8]) -> bool {
+    let verdict = made.answer;
+    let set = made.set;
+    match verdict {
+        Verdict::Refused(_) => false,
+        Verdict::Accepted => allowed_agrees(set, i, stored),
     }
 }

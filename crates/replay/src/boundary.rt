@@ -1,11 +1,11 @@
 // The limits of a List, made from document 01. A record is the number of the answer, and the rules that the List is made of.
 
 use crate::answers::is_refusal;
+use crate::hand_made::any_of;
 use crate::hand_made::list_of;
 use crate::rule_records::RULE_BYTES;
 use crate::set_answers::listing_agrees;
 use scalars::Verdict;
-use sets::AnyOverloadSet;
 
 // Whether the rules are refused as stored, or taken, and listed as they stand there.
 pub fn agrees(record: &[u8]) -> bool {
@@ -16,11 +16,11 @@ pub fn agrees(record: &[u8]) -> bool {
         return false;
     }
     let number = record[0];
-    let made = list_of(&record[1..]);
+    let made = any_of(list_of(&record[1..]));
     let verdict = made.answer;
-    let list = made.list;
+    let set = made.set;
     match verdict {
         Verdict::Refused(why) => is_refusal(why, number, 0),
-        Verdict::Accepted => listing_agrees(AnyOverloadSet::from_list(list), record),
+        Verdict::Accepted => listing_agrees(set, record),
     }
 }

@@ -11,7 +11,7 @@ use crate::named_sets;
 use crate::refused;
 use crate::typings;
 
-pub enum List {
+pub enum StoredList {
     Combine,
     Convertible,
     NamedSets,
@@ -26,17 +26,17 @@ pub enum List {
 }
 
 // Whether our answer to the record's question is the stored one. A record of another form than its list's does not agree.
-pub fn agrees(list: List, record: &[u8]) -> bool {
+pub fn agrees(list: StoredList, record: &[u8]) -> bool {
     match list {
-        List::Combine => combine::agrees(record),
-        List::Convertible => convertible::agrees(record),
-        List::NamedSets => named_sets::agrees(record),
-        List::Consensus => consensus::agrees(record),
-        List::HandSets => handsets::agrees(record),
-        List::Boundary => boundary::agrees(record),
-        List::Calls => calls::agrees(record),
-        List::Refused => refused::agrees(record),
-        List::Allowed => allowed::agrees(record),
-        List::Expressions => typings::agrees(record),
+        StoredList::Combine => combine::agrees(record),
+        StoredList::Convertible => convertible::agrees(record),
+        StoredList::NamedSets => named_sets::agrees(record),
+        StoredList::Consensus => consensus::agrees(record),
+        StoredList::HandSets => handsets::agrees(record),
+        StoredList::Boundary => boundary::agrees(record),
+        StoredList::Calls => calls::agrees(record),
+        StoredList::Refused => refused::agrees(record),
+        StoredList::Allowed => allowed::agrees(record),
+        StoredList::Expressions => typings::agrees(record),
     }
 }

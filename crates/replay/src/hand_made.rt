@@ -3,14 +3,13 @@
 
 use crate::records::word;
 use crate::rule_records::RULE_BYTES;
-use domain::ConstructorSet;
-use handmade::conclusion_of;
-use handmade::rules_in;
-use lists::List;
+use handmade::list_from;
+use handmade::regular_from;
+use lent_masks::lend_mask;
 use lists::ListAnswer;
 use regular::Regular;
+use regular::RegularAnswer;
 use scalars::Refusal;
-use scalars::ScalarSet;
 use scalars::Verdict;
 use sets::AnyAnswer;
 use sets::AnyOverloadSet;
@@ -32,37 +31,33 @@ pub fn is_regular(bytes: &[u8]) -> bool {
 // The set, or its refusal; 8 for bytes of another form.
 pub fn made(bytes: &[u8]) -> AnyAnswer {
     if is_regular(bytes) {
-        return AnyAnswer {
-            answer: Verdict::Accepted,
-            set: AnyOverloadSet::from_regular(regular_of(bytes)),
-        };
+        return any_regular(regular_answer(bytes));
     }
     if bytes.len() == 0 {
-        return ill_formed();
+        return no_set(Refusal::IllFormed(0));
     }
     if bytes[0] != 1 {
-        return ill_formed();
+        return no_set(Refusal::IllFormed(0));
     }
     if bytes.len() % RULE_BYTES != 1 {
-        return ill_formed();
+        return no_set(Refusal::IllFormed(0));
     }
     any_of(list_of(&bytes[1..]))
 }
 
-// The Regular set; the empty one where the bytes are not as many.
-pub fn regular_of(bytes: &[u8]) -> Regular {
+// The Regular set, or its refusal; 8 where the bytes are not as many.
+fn regular_answer(bytes: &[u8]) -> RegularAnswer {
     if bytes.len() != REGULAR_BYTES {
-        return Regular::EMPTY;
+        return RegularAnswer::Refused(Refusal::IllFormed(0));
     }
-    let arity = bytes[1];
-    let constructors = ConstructorSet(mask_at(bytes, 2));
-    let scalars = ScalarSet(mask_at(bytes, 4));
-    let conclude = conclusion_of(bytes[6]);
-    Regular {
-        arity: arity,
-        constructors: constructors,
-        scalars: scalars,
-        conclude: conclude,
+    regular_from(bytes[1], mask_at(bytes, 2), mask_at(bytes, 4), bytes[6])
+}
+
+// The Regular set; the empty one where it is refused.
+pub fn regular_of(bytes: &[u8]) -> Regular {
+    match regular_answer(bytes) {
+        RegularAnswer::Refused(_) => Regular::EMPTY,
+        RegularAnswer::Set(set) => set,
     }
 }
 
@@ -71,25 +66,48 @@ fn mask_at(bytes: &[u8], at: usize) -> u16 {
     word(bytes, at) as u16
 }
 
-// The List of rules that stand one behind another.
+// The List of rules that stand one behind another, all of them members. The mask has room for 256 rules.
 pub fn list_of(bytes: &[u8]) -> ListAnswer {
-    List::from_rules(rules_in(bytes), bytes.len() / RULE_BYTES)
+    let n = bytes.len() / RULE_BYTES;
+    let mut members = [0u8; 32];
+    lend_mask(all_of(n), n, &mut members);
+    list_from(bytes, &members)
+}
+
+// The mask of n members; none of more than a List takes.
+fn all_of(n: usize) -> u64 {
+    if 63 < n {
+        return 0;
+    }
+    std::num::wrapping_sub_u64(1u64 << n, 1)
 }
 
 // A List's answer as one of either kind.
 pub fn any_of(made: ListAnswer) -> AnyAnswer {
     let verdict = made.answer;
     let list = made.list;
+    let any = AnyOverloadSet::from_list(list);
+    let set = any.set;
     AnyAnswer {
         answer: verdict,
-        set: AnyOverloadSet::from_list(list),
+        set: set,
+    }
+}
+
+// A Regular set's answer as one of either kind.
+fn any_regular(made: RegularAnswer) -> AnyAnswer {
+    match made {
+        RegularAnswer::Refused(why) => no_set(why),
+        RegularAnswer::Set(set) => AnyOverloadSet::from_regular(set),
     }
 }
 
 // The answer to bytes that are no set.
-fn ill_formed() -> AnyAnswer {
+fn no_set(why: Refusal) -> AnyAnswer {
+    let none = AnyOverloadSet::from_regular(Regular::EMPTY);
+    let set = none.set;
     AnyAnswer {
-        answer: Verdict::Refused(Refusal::IllFormed(0)),
-        set: AnyOverloadSet::from_regular(Regular::EMPTY),
+        answer: Verdict::Refused(why),
+        set: set,
     }
 }

@@ -27,20 +27,20 @@ mod tally;
 mod typings;
 mod walk;
 
-use catalogue::List;
+use catalogue::StoredList;
 use walk::replay;
 
 fn main() {
-    replay(List::Combine, b"combine");
-    replay(List::Convertible, b"convertible");
-    replay(List::NamedSets, b"named_sets");
-    replay(List::Consensus, b"consensus");
-    replay(List::HandSets, b"handsets");
-    replay(List::Boundary, b"boundary");
-    replay(List::Calls, b"calls");
-    replay(List::Refused, b"refused");
-    replay(List::Allowed, b"allowed");
-    replay(List::Expressions, b"worksheets");
-    replay(List::Expressions, b"room");
-    replay(List::Expressions, b"limits");
+    replay(StoredList::Combine, b"combine");
+    replay(StoredList::Convertible, b"convertible");
+    replay(StoredList::NamedSets, b"named_sets");
+    replay(StoredList::Consensus, b"consensus");
+    replay(StoredList::HandSets, b"handsets");
+    replay(StoredList::Boundary, b"boundary");
+    replay(StoredList::Calls, b"calls");
+    replay(StoredList::Refused, b"refused");
+    replay(StoredList::Allowed, b"allowed");
+    replay(StoredList::Expressions, b"worksheets");
+    replay(StoredList::Expressions, b"room");
+    replay(StoredList::Expressions, b"limits");
 }

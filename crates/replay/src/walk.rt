@@ -1,6 +1,6 @@
 // The walk over a list's records.
 
-use crate::catalogue::List;
+use crate::catalogue::StoredList;
 use crate::catalogue::agrees;
 use crate::records::load;
 use crate::records::room;
@@ -8,7 +8,7 @@ use crate::records::span_at;
 use crate::tally::Tally;
 
 // Compares the list in the file of this name, and writes what came out.
-pub fn replay(list: List, name: &[u8]) {
+pub fn replay(list: StoredList, name: &[u8]) {
     let mut space = room();
     let n = load(name, &mut space);
     let tally = compared(list, &space[..n]);
@@ -16,7 +16,7 @@ pub fn replay(list: List, name: &[u8]) {
 }
 
 // The tally of the whole file. An empty one, or one that ends within a record, counts as a difference.
-fn compared(list: List, file: &[u8]) -> Tally {
+fn compared(list: StoredList, file: &[u8]) -> Tally {
     let mut tally = Tally::new();
     if file.len() == 0 {
         return tally.broken();

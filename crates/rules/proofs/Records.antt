@@ -1,12 +1,31 @@
 -- A rule's record and what it says: the record of what a rule says, says the same. Assumes nothing.
 use mathlib.Core.Path.{_≡_, refl, ap, ap₂}
+use mathlib.Core.Bool.{Bool, not}
 use mathlib.Core.List.{List, [], _∷_, map}
-use Prim.Native.Nat.{ℕ, _≤_, min}
+use Prim.Native.Nat.{ℕ, zero, suc, _≤_, min}
 use native.Mathlib.Omega.{arith}
-use lib.ListN.{length, take, getD, length-take}
+use lib.Dec.{leb, ltb}
+use lib.ListN.{length, take, getD, replicate, length-take}
+use Rattle.scalars.specs.Mask.{both, every}
+use Rattle.scalars.specs.Domain.{value?, known?, isAbstract}
 use Rattle.rules.specs.Signature.{Signature}
-use Rattle.rules.specs.Rule.{argumentsOf, signatureOf, ruleOf}
+use Rattle.rules.specs.Rule.{mostArguments, argumentsOf, signatureOf, ruleOf}
 use Rattle.rules.specs.declared.rule.Rule.{Rule}
+
+-- a rule has that argument
+abbrev pub hasAt : ℕ → Signature → Bool
+hasAt i r = ltb i (length (r .arguments))
+
+-- no type is abstract
+abbrev pub allConcrete : List ℕ → Bool
+allConcrete az = every (λ a. not (isAbstract a)) az
+
+-- what a rule says is short enough for a record, and its codes are known
+abbrev pub short? : Signature → Bool
+short? s = leb (length (s .arguments)) mostArguments
+
+abbrev pub typed? : Signature → Bool
+typed? s = both (every value? (s .arguments)) (known? (s .result))
 
 -- the record that is read past an array's end
 abbrev pub zeroRule : Rule
@@ -24,6 +43,16 @@ four (a ∷ b ∷ c ∷ d ∷ e ∷ ts) h = absurd (omega arith)
 pub record-says : (s : Signature) → length (s .arguments) ≤ 4 → signatureOf (ruleOf s) ≡ s
 unfolding argumentsOf ruleOf
 record-says s h = ap (λ (ts : List ℕ). record { arguments = ts; result = s .result }) (four (s .arguments) h)
+
+-- a record of one type in every field has that type for each argument
+pub uniform : (n t result : ℕ) → n ≤ 4 → argumentsOf (record { a0 = t; a1 = t; a2 = t; a3 = t; count = n; result = result }) ≡ replicate n t
+unfolding argumentsOf
+uniform zero t result h = refl
+uniform (suc zero) t result h = refl
+uniform (suc (suc zero)) t result h = refl
+uniform (suc (suc (suc zero))) t result h = refl
+uniform (suc (suc (suc (suc zero)))) t result h = refl
+uniform (suc (suc (suc (suc (suc n))))) t result h = absurd (omega arith)
 
 -- a record holds as many arguments as its count says, but at most four
 pub arguments-many : (r : Rule) → length (argumentsOf r) ≡ min (r .count) 4

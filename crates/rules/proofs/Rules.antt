@@ -6,30 +6,24 @@ use mathlib.Core.List.{List, [], _∷_}
 use Prim.Native.Nat.{ℕ, zero, suc, _/_, _%_, _≤_, _<_, min}
 use native.Mathlib.Omega.{arith}
 use lib.Dec.{eqb, leb, ltb}
-use lib.ListN.{length, take, getD, replicate, length-take, length-replicate, getD-replicate, List·getD-eq-default}
+use lib.ListN.{length, take, getD, length-take, List·getD-eq-default}
 use lib.Seq.{getD-take}
 use borrow.Author.Tests.{le-leb, lt-leb, leb-true, leb-false, ltb-true, ne-eqb}
 use Rattle.scalars.specs.Mask.{choose, both, either, every}
 use Rattle.scalars.specs.Domain.{converts, value?, known?, isAbstract}
-use Rattle.rules.specs.Signature.{reaches, takesAt, takes, allConcrete, concrete}
+use Rattle.rules.specs.Signature.{reaches, takesAt, takes, concrete}
+use Rattle.rules.proofs.Records.{allConcrete}
 use Rattle.rules.specs.Rule.{argumentsOf, signatureOf, knownRule}
 use Rattle.rules.specs.declared.rule.Rule.{Rule}
 
 module _ {A : Type 0} where
-  -- an entry of the first n of a list, and of n equal ones
+  -- an entry of the first n of a list
   pub taken-at : (n : ℕ) (xs : List A) (i : ℕ) (d : A) → getD (take n xs) i d ≡ choose (leb n i) d (getD xs i d)
   taken-at n xs i d = go (leb n i) refl
     where
       go : (b : Bool) → leb n i ≡ b → getD (take n xs) i d ≡ choose b d (getD xs i d)
       go true e = List·getD-eq-default (take n xs) d (omega (arith, length-take n xs, leb-true n i e))
       go false e = getD-take n xs i d (leb-false n i e)
-
-  pub repeated-at : (n : ℕ) (t : A) (i : ℕ) (d : A) → getD (replicate n t) i d ≡ choose (leb n i) d t
-  repeated-at n t i d = go (leb n i) refl
-    where
-      go : (b : Bool) → leb n i ≡ b → getD (replicate n t) i d ≡ choose b d t
-      go true e = List·getD-eq-default (replicate n t) d (omega (arith, length-replicate n t, leb-true n i e))
-      go false e = getD-replicate n i t d (leb-false n i e)
 
 -- a test of each of the first n of four
 module _ (p : ℕ → Bool) (a b c d : ℕ) where

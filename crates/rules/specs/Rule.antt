@@ -7,22 +7,17 @@ use lib.Dec.{leb}
 use lib.ListN.{length, take, getD}
 use Rattle.scalars.specs.Mask.{choose, both, every}
 use Rattle.scalars.specs.Domain.{value?, known?}
-use Rattle.rules.specs.Signature.{Signature, takes, concrete}
+use Rattle.rules.specs.Signature.{Signature, typeAt, takes, concrete}
 use Rattle.domain.specs.Constructor.{constructorOf}
-use Rattle.domain.specs.TypeCode.{predeclaredCode}
-use Rattle.scalars.specs.declared.refusal.Refusal.the-variants.{TooMany, Unknown}
+use Rattle.domain.specs.TypeCode.{predeclaredCode, firstModf, firstFrexp}
+use Rattle.scalars.specs.Paper.{Paper, accepted, refusal, whenAccepted}
+use Rattle.rules.specs.RulePaper.{ruleValues, noRule}
 use Rattle.rules.specs.declared.rule.Rule.{Rule}
-use Rattle.rules.specs.declared.rule.RuleAnswer.{RuleAnswer}
-use Rattle.rules.specs.declared.rule.RuleAnswer.the-variants as answer
 use Rattle.rules.specs.declared.rule.Keep.{Keep}
 use Rattle.rules.specs.declared.rule.Keep.the-variants.{Argument, Concrete}
 use Rattle.rules.specs.declared.rule.Predeclared.{Predeclared}
 use Rattle.rules.specs.declared.rule.Predeclared.the-variants.{Frexp, Modf}
 use Rattle.domain.specs.declared.constructor_set.ConstructorSize.{ConstructorSize}
-use Rattle.domain.specs.declared.constructor_set.ConstructorAnswer.{ConstructorAnswer}
-use Rattle.domain.specs.declared.constructor_set.ConstructorAnswer.the-variants as constructor
-use Rattle.domain.specs.declared.type_code.CodeAnswer.{CodeAnswer}
-use Rattle.domain.specs.declared.type_code.CodeAnswer.the-variants as code
 
 -- the most arguments of a rule
 abbrev pub mostArguments : ℕ
@@ -36,14 +31,7 @@ signatureOf r = record { arguments = argumentsOf r; result = r .result }
 
 -- the record of a rule, with 255 in the fields not in use
 unfoldable pub ruleOf : Signature → Rule
-ruleOf s = record {
-  a0 = getD (s .arguments) 0 255;
-  a1 = getD (s .arguments) 1 255;
-  a2 = getD (s .arguments) 2 255;
-  a3 = getD (s .arguments) 3 255;
-  count = length (s .arguments);
-  result = s .result;
-}
+ruleOf s = record { a0 = typeAt 0 s; a1 = typeAt 1 s; a2 = typeAt 2 s; a3 = typeAt 3 s; count = length (s .arguments); result = s .result }
 
 abbrev pub blankRule : Rule
 blankRule = record { a0 = 255; a1 = 255; a2 = 255; a3 = 255; count = 255; result = 255 }
@@ -55,19 +43,12 @@ knownRule r = both (every value? (argumentsOf r)) (known? (r .result))
 unfoldable pub shortRule : Rule → Bool
 shortRule r = leb (r .count) mostArguments
 
--- the same of what a rule says
-abbrev pub short? : Signature → Bool
-short? s = leb (length (s .arguments)) mostArguments
-
-abbrev pub typed? : Signature → Bool
-typed? s = both (every value? (s .arguments)) (known? (s .result))
-
 -- an unknown code is refusal 7, then more than four arguments 3
-unfoldable pub checkedRule : Rule → RuleAnswer
+unfoldable pub checkedRule : Rule → Paper
 checkedRule r =
     choose (knownRule r)
-    (choose (shortRule r) (answer.Rule (ruleOf (signatureOf r))) (answer.Refused TooMany))
-    (answer.Refused (Unknown 0))
+    (choose (shortRule r) (accepted (ruleValues (ruleOf (signatureOf r)))) (refusal 3 0 noRule))
+    (refusal 7 0 noRule)
 
 -- a step's test of a rule
 abbrev pub passes : Keep → Signature → Bool
@@ -76,12 +57,8 @@ passes Concrete s = concrete s
 
 -- the result of Frexp or Modf
 abbrev pub firstCode : Predeclared → ℕ
-firstCode Modf = 157
-firstCode Frexp = 169
+firstCode Modf = firstModf
+firstCode Frexp = firstFrexp
 
-abbrev pub predeclaredFrom : ℕ → ConstructorAnswer → ℕ → CodeAnswer
-predeclaredFrom first (constructor.Constructor k) s = predeclaredCode first (k .0) s
-predeclaredFrom first (constructor.Refused why) s = code.Refused why
-
-unfoldable pub predeclaredOf : Predeclared → ConstructorSize → ℕ → CodeAnswer
-predeclaredOf f z s = predeclaredFrom (firstCode f) (constructorOf z) s
+unfoldable pub predeclaredOf : Predeclared → ConstructorSize → ℕ → Paper
+predeclaredOf f z s = whenAccepted (constructorOf z) (λ vs. predeclaredCode (firstCode f) (getD vs 0 255) s) (255 ∷ [])

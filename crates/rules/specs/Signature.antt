@@ -3,6 +3,7 @@ use mathlib.Core.Bool.{Bool, false, not}
 use mathlib.Core.List.{List, [], _∷_}
 use Prim.Native.Nat.{ℕ, zero, suc}
 use lib.Dec.{eqb}
+use lib.ListN.{getD}
 use Rattle.scalars.specs.Mask.{both, every}
 use Rattle.scalars.specs.Domain.{value?, constructorPart, scalarPart, converts, isAbstract}
 
@@ -10,6 +11,10 @@ use Rattle.scalars.specs.Domain.{value?, constructorPart, scalarPart, converts,
 pub record Signature : Type 0 where
   pub arguments : List ℕ
   pub result : ℕ
+
+-- the type at an argument; 255 where there is none
+abbrev pub typeAt : ℕ → Signature → ℕ
+typeAt i r = getD (r .arguments) i 255
 
 -- the operand's constructor is the argument's
 abbrev pub sameShape : ℕ → ℕ → Bool
@@ -33,8 +38,5 @@ abbrev pub takes : ℕ → ℕ → Signature → Bool
 takes i t r = takesAt i t (r .arguments)
 
 -- the concrete-only step's test: no argument is abstract
-abbrev pub allConcrete : List ℕ → Bool
-allConcrete az = every (λ a. not (isAbstract a)) az
-
 abbrev pub concrete : Signature → Bool
-concrete r = allConcrete (r .arguments)
+concrete r = every (λ a. not (isAbstract a)) (r .arguments)

@@ -3,24 +3,16 @@ use mathlib.Core.List.{List, [], _∷_}
 use Prim.Native.Nat.{ℕ, max}
 use lib.ListN.{length}
 use Rattle.rules.specs.Signature.{Signature}
-use Rattle.scalars.specs.declared.answer.Verdict.{Verdict}
-use Rattle.scalars.specs.declared.answer.Verdict.the-variants as verdict
-use Rattle.scalars.specs.declared.answer.Test.{Test}
-use Rattle.scalars.specs.declared.answer.Test.the-variants as test
-use Rattle.scalars.specs.declared.answer.CountAnswer.{CountAnswer}
-use Rattle.scalars.specs.declared.answer.CountAnswer.the-variants as count
-use Rattle.scalars.specs.declared.refusal.Refusal.{Refusal}
-use Rattle.scalars.specs.declared.refusal.Refusal.the-variants.{EmptySet}
+use Rattle.scalars.specs.Paper.{Paper, accepted, refusal, whenAccepted}
 
--- what is answered of a set that is accepted, or its refusal
-abbrev pub onVerdict {ℓ} : {A : Type ℓ} → Verdict → A → (Refusal → A) → A
-onVerdict verdict.Accepted x y = x
-onVerdict (verdict.Refused why) x y = y why
+-- what is answered of a set that is accepted, or its refusal with these values
+abbrev pub onVerdict : Paper → Paper → List ℕ → Paper
+onVerdict p x ws = whenAccepted p (λ vs. x) ws
 
--- whether no rule is left
-abbrev pub emptyOf : List Signature → Test
-emptyOf [] = test.Yes
-emptyOf (r ∷ rs) = test.No
+-- whether no rule is left: yes is 1, no is 0
+abbrev pub emptyOf : List Signature → Paper
+emptyOf [] = accepted (1 ∷ [])
+emptyOf (r ∷ rs) = accepted (0 ∷ [])
 
 -- the longest rule's number of arguments
 abbrev pub longest : List Signature → ℕ
@@ -28,6 +20,6 @@ longest [] = 0
 longest (r ∷ rs) = max (length (r .arguments)) (longest rs)
 
 -- both counts are the longest member's; of no rules, refusal 1
-abbrev pub countOf : List Signature → CountAnswer
-countOf [] = count.Refused (EmptySet 0)
-countOf (r ∷ rs) = count.Count (longest (r ∷ rs))
+abbrev pub countOf : List Signature → Paper
+countOf [] = refusal 1 0 (255 ∷ [])
+countOf (r ∷ rs) = accepted (longest (r ∷ rs) ∷ [])

@@ -1,5 +1,5 @@
 // Type rules: naga's `src/proc/overloads/rule.rs`, above the crate `domain`. Beside it stands `listing`, what a set of either kind
-// lists. Every public function ends on every input and tests it itself.
+// lists. Every public function ends on every input and tests it itself, but for the bare tests of a rule that docs/DECISIONS.md lists.
 
 mod listing;
 mod rule;

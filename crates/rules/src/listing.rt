@@ -4,7 +4,9 @@
 ghost use mathlib.Core.Path.{_≡_};
 ghost use lib.ListN.{replicate};
 ghost use Rattle.rules.specs.Rule.{blankRule};
-ghost use Rattle.rules.specs.Listing.{refusedListing, refusedTypes};
+ghost use Rattle.scalars.specs.Paper.{refused};
+ghost use Rattle.rules.specs.RulePaper.{listingPaper, typesPaper};
+ghost use Rattle.rules.specs.Listing.{noListing, noTypes};
 use crate::rule::Rule;
 use scalars::CountAnswer;
 use scalars::Refusal;
@@ -36,7 +38,7 @@ pub fn no_codes() -> [u8; 156]
 
 // The answer to a set that is refused.
 pub fn no_listing(why: Refusal) -> Listing
-    ensures { λ r. ⌜ r ≡ refusedListing why ⌝ }
+    ensures { λ r. ⌜ listingPaper r ≡ refused why noListing ⌝ }
 {
     Listing {
         answer: CountAnswer::Refused(why),
@@ -45,7 +47,7 @@ pub fn no_listing(why: Refusal) -> Listing
 }
 
 pub fn no_types(why: Refusal) -> AllowedArgs
-    ensures { λ r. ⌜ r ≡ refusedTypes why ⌝ }
+    ensures { λ r. ⌜ typesPaper r ≡ refused why noTypes ⌝ }
 {
     AllowedArgs {
         answer: CountAnswer::Refused(why),

@@ -7,10 +7,12 @@ ghost use mathlib.Core.Path.{_≡_};
 ghost use mathlib.Core.Bool.{not};
 ghost use Prim.Native.Nat.{min};
 ghost use lib.Dec.{leb};
-ghost use lib.ListN.{length, getD, replicate};
+ghost use lib.ListN.{length, getD};
 ghost use Rattle.scalars.specs.Mask.{choose, both, either};
 ghost use Rattle.scalars.specs.Domain.{value?, isAbstract};
 ghost use Rattle.rules.specs.Signature.{reaches, takes, concrete};
+ghost use Rattle.domain.specs.TypePaper.{codePaper};
+ghost use Rattle.rules.specs.RulePaper.{rulePaper};
 ghost use Rattle.rules.specs.Rule.{argumentsOf, signatureOf, ruleOf, checkedRule, knownRule, predeclaredOf, passes};
 use domain::CodeAnswer;
 use domain::ConstructorAnswer;
@@ -20,9 +22,9 @@ use domain::TypeParts;
 use domain::VALUES;
 use domain::code_of;
 use domain::is_abstract;
-use domain::scalar_converts;
 use scalars::Refusal;
 use scalars::Scalar;
+use scalars::ScalarSet;
 
 // The most arguments of a rule.
 pub const MOST_ARGUMENTS: u8 = 4;
@@ -70,7 +72,7 @@ impl Rule {
 
     // The rule with 255 in the fields not in use. Refused 7 for an unknown code, then 3 for more than four arguments.
     pub fn checked(self) -> RuleAnswer
-        ensures { λ r. ⌜ r ≡ checkedRule self ⌝ }
+        ensures { λ r. ⌜ rulePaper r ≡ checkedRule self ⌝ }
     {
         if !self.known() {
             return RuleAnswer::Refused(Refusal::Unknown(0));
@@ -121,20 +123,6 @@ impl Rule {
         ensures { λ r. ⌜ r ≡ length (argumentsOf self) ⌝ }
     {
         held(self.count)
-    }
-
-    // The rule of n arguments of one type.
-    pub fn uniform(n: u8, t: u8, result: u8) -> Rule
-        ensures { λ r. ⌜ r ≡ ruleOf (record { arguments = replicate n t; result = result }) ⌝ }
-    {
-        Rule {
-            a0: used(n, 0, t),
-            a1: used(n, 1, t),
-            a2: used(n, 2, t),
-            a3: used(n, 3, t),
-            count: n,
-            result: result,
-        }
     }
 
     // Whether the rule passes a step's test.
@@ -205,7 +193,7 @@ pub fn reaches(t: u8, a: u8) -> bool
     if t / 12 != a / 12 {
         return false;
     }
-    scalar_converts(t % 12, a % 12)
+    ScalarSet::convertible_from(Scalar(t % 12)).contains(Scalar(a % 12))
 }
 
 // Whether an argument is not there, or is a value type.
@@ -251,7 +239,7 @@ fn used(count: u8, i: u8, a: u8) -> u8
 // The result type of Frexp or Modf. Refused 7 at 0 for a size that does not exist, at 1 for an unknown scalar; then 13 for a matrix,
 // or for a scalar but F32, F16 and F64.
 pub fn for_frexp_modf(function: Predeclared, size: ConstructorSize, scalar: Scalar) -> CodeAnswer
-    ensures { λ r. ⌜ r ≡ predeclaredOf function size (scalar .0) ⌝ }
+    ensures { λ r. ⌜ codePaper r ≡ predeclaredOf function size (scalar .0) ⌝ }
 {
     match size.constructor() {
         ConstructorAnswer::Refused(why) => CodeAnswer::Refused(why),

@@ -24,10 +24,10 @@ min-digit m b = go (m % 2) refl b
     go (suc zero) e false = refl
     go (suc (suc r)) e b = two m r e
 
-ones-half : (k : ℕ) → (2 ^ suc k - 1) / 2 ≡ 2 ^ k - 1
+pub ones-half : (k : ℕ) → (2 ^ suc k - 1) / 2 ≡ 2 ^ k - 1
 ones-half k = rw (pow-suc 2 k) (omega (arith, pow-pos k))
 
-ones-odd : (k : ℕ) → (2 ^ suc k - 1) % 2 ≡ 1
+pub ones-odd : (k : ℕ) → (2 ^ suc k - 1) % 2 ≡ 1
 ones-odd k = rw (pow-suc 2 k) (omega (arith, pow-pos k))
 
 module _ {A : Type 0} where

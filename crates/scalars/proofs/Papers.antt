@@ -1,14 +1,14 @@
 -- The paper's numbers determine each answer: two answers of one kind with the same number, place and values are equal. Shown by a
 -- function that reads the answer back. Assumes nothing.
-use mathlib.Core.Path.{_≡_, refl, sym, ap, _∙_}
-use mathlib.Core.Bool.{Bool, false}
+use mathlib.Core.Path.{_≡_, refl, sym, ap, ap₂, _∙_}
 use mathlib.Core.List.{List, [], _∷_}
 use Prim.Native.Nat.{ℕ}
+use native.Mathlib.Omega.{arith}
 use lib.Dec.{eqb}
 use lib.ListN.{getD}
 use Rattle.scalars.specs.Mask.{choose}
-use Rattle.scalars.specs.Refusal.{numberOf, placeOf}
-use Rattle.scalars.specs.Paper.{Paper, verdictPaper, testPaper, countPaper, scalarPaper, walkPaper}
+use Rattle.scalars.specs.Refusal.{numbered}
+use Rattle.scalars.specs.Paper.{Paper, accepted, refusal, values, refused, beside, verdictPaper, testPaper, countPaper, scalarPaper, walkPaper, membersPaper}
 use Rattle.scalars.specs.declared.refusal.Refusal.{Refusal}
 use Rattle.scalars.specs.declared.refusal.Refusal.the-variants.{EmptySet, SeveralConstructors, TooMany, NoSuchArgument, WrongCount, NoRuleLeft, Unknown, IllFormed, TooLarge, NoRoom, NothingToCombine, NoConsensus, NoConclusion}
 use Rattle.scalars.specs.declared.answer.Verdict.{Verdict}
@@ -21,6 +21,7 @@ use Rattle.scalars.specs.declared.scalar_set.ScalarAnswer.{ScalarAnswer}
 use Rattle.scalars.specs.declared.scalar_set.ScalarAnswer.the-variants as scalar
 use Rattle.scalars.specs.declared.one_bits_iter.BitStep.{BitStep}
 use Rattle.scalars.specs.declared.one_bits_iter.BitStep.the-variants as walk
+use Rattle.scalars.specs.declared.one_bits_iter.Members.{Members}
 
 -- ---- refusals
 
@@ -41,7 +42,7 @@ refusalOf n p =
     (choose (eqb n 12) (NoConsensus p)
     NoConclusion)))))))))))
 
-refused-back : (why : Refusal) → refusalOf (numberOf why) (placeOf why) ≡ why
+refused-back : (why : Refusal) → refusalOf (numbered why .0) (numbered why .1) ≡ why
 unfolding refusalOf
 refused-back (EmptySet p) = refl
 refused-back SeveralConstructors = refl
@@ -57,34 +58,19 @@ refused-back NothingToCombine = refl
 refused-back (NoConsensus p) = refl
 refused-back NoConclusion = refl
 
-not-zero : (why : Refusal) → eqb (numberOf why) 0 ≡ false
-not-zero (EmptySet p) = refl
-not-zero SeveralConstructors = refl
-not-zero TooMany = refl
-not-zero (NoSuchArgument p) = refl
-not-zero (WrongCount p) = refl
-not-zero (NoRuleLeft p) = refl
-not-zero (Unknown p) = refl
-not-zero (IllFormed p) = refl
-not-zero (TooLarge p) = refl
-not-zero (NoRoom p) = refl
-not-zero NothingToCombine = refl
-not-zero (NoConsensus p) = refl
-not-zero NoConclusion = refl
-
-pub refusal-one : (a b : Refusal) → numberOf a ≡ numberOf b → placeOf a ≡ placeOf b → a ≡ b
-refusal-one a b n p = sym (refused-back a) ∙ ap (λ (k : ℕ). refusalOf k (placeOf a)) n ∙ ap (refusalOf (numberOf b)) p ∙ refused-back b
+pub refusal-one : (a b : Refusal) → numbered a .0 ≡ numbered b .0 → numbered a .1 ≡ numbered b .1 → a ≡ b
+refusal-one a b n p = sym (refused-back a) ∙ ap (λ (k : ℕ). refusalOf k (numbered a .1)) n ∙ ap (refusalOf (numbered b .0)) p ∙ refused-back b
 
 -- ---- an answer that is read back is the answer
 
--- number 0 reads the values, any other number is a refusal
 unfoldable pub read : {A : Type 0} → (List ℕ → A) → (Refusal → A) → Paper → A
-read f g p = choose (eqb (p .number) 0) (f (p .values)) (g (refusalOf (p .number) (p .place)))
+read f g (accepted vs) = f vs
+read f g (refusal n p vs) = g (refusalOf n p)
 
 module _ {A : Type 0} (f : List ℕ → A) (g : Refusal → A) where
-  pub reads-refused : (why : Refusal) (vs : List ℕ) → read f g (record { number = numberOf why; place = placeOf why; values = vs }) ≡ g why
+  pub reads-refused : (why : Refusal) (vs : List ℕ) → read f g (refused why vs) ≡ g why
   unfolding read
-  reads-refused why vs = ap (λ (b : Bool). choose b (f vs) (g (refusalOf (numberOf why) (placeOf why)))) (not-zero why) ∙ ap g (refused-back why)
+  reads-refused why vs = ap g (refused-back why)
 
 pub one-to-one : {A : Type 0} (paper : A → Paper) (unpaper : Paper → A) → ((a : A) → unpaper (paper a) ≡ a) → (a b : A) → paper a ≡ paper b → a ≡ b
 one-to-one paper unpaper back a b e = sym (back a) ∙ ap unpaper e ∙ back b
@@ -140,9 +126,25 @@ abbrev walkIn : List ℕ → BitStep
 walkIn [] = walk.Done
 walkIn (m ∷ vs) = walk.Bit (record { 0 = m }) (record { 0 = getD vs 0 0 })
 
-walk-back : (a : BitStep) → walkIn (walkPaper a .values) ≡ a
+walk-back : (a : BitStep) → walkIn (values (walkPaper a)) ≡ a
 walk-back (walk.Bit bit rest) = refl
 walk-back walk.Done = refl
 
 pub walk-one : (a b : BitStep) → walkPaper a ≡ walkPaper b → a ≡ b
-walk-one = one-to-one walkPaper (λ p. walkIn (p .values)) walk-back
+walk-one = one-to-one walkPaper (λ p. walkIn (values p)) walk-back
+
+-- ---- an array beside a count
+
+pub count-beside : (a b : CountAnswer) (vs ws : List ℕ) → beside (countPaper a) vs ≡ beside (countPaper b) ws → (a ≡ b) × (vs ≡ ws)
+count-beside (count.Count m) (count.Count n) vs ws e = (cc, cc)
+count-beside (count.Count m) (count.Refused why) vs ws e = let z : _≡_ {A = ℕ} 0 1 = cc in absurd (omega arith)
+count-beside (count.Refused why) (count.Count n) vs ws e = let z : _≡_ {A = ℕ} 0 1 = cc in absurd (omega arith)
+count-beside (count.Refused w) (count.Refused u) vs ws e =
+    let n : numbered w .0 ≡ numbered u .0 = cc in
+    let p : numbered w .1 ≡ numbered u .1 = cc in
+    (ap count.Refused (refusal-one w u n p), cc)
+
+pub members-one : (a b : Members) → membersPaper a ≡ membersPaper b → a ≡ b
+members-one a b e =
+    let f = count-beside (a .answer) (b .answer) (a .numbers) (b .numbers) e in
+    ap₂ (λ (c : CountAnswer) (ns : List ℕ). record { answer = c; numbers = ns }) (f .0) (f .1)

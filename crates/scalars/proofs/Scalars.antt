@@ -1,20 +1,21 @@
 -- Scalar sets: the preferred scalar is the lowest bit, and what a scalar converts to as a mask. Assumes nothing.
 use mathlib.Core.Path.{_≡_, refl}
 use mathlib.Core.Bool.{Bool, true, false}
-use Prim.Native.Nat.{ℕ, _*_, _/_, _%_, _^_, _≤_, _<_}
+use mathlib.Core.List.{[], _∷_}
+use Prim.Native.Nat.{ℕ, _*_, _%_, _^_, _≤_, _<_}
 use native.Mathlib.Omega.{arith}
 use lib.Count.{trailingZeros}
 use lib.Dec.{eqb, eqb→eq, leb, ltb, lit≤}
 use borrow.Author.Tests.{lt-ltb, lt-leb, ltb-true}
-use Rattle.scalars.specs.Mask.{both, either}
+use Rattle.scalars.specs.Mask.{either}
 use Rattle.scalars.specs.Domain.{scalars, converts}
-use Rattle.scalars.specs.Scalar.{mostGeneral, singletonOf, convertibleFrom}
-use Rattle.scalars.specs.declared.scalar_set.ScalarAnswer.the-variants.{Scalar}
+use Rattle.scalars.specs.Paper.{accepted}
+use Rattle.scalars.specs.Scalar.{mostGeneral, member, singletonOf, convertibleFrom}
 use Rattle.scalars.proofs.Table.{at, every, same, same→eq}
 use Rattle.scalars.proofs.Bits.{bits-first}
 
 -- the preferred scalar, by counting trailing zeros
-pub lowest : (m : ℕ) → 0 < m → m < 2 ^ 12 → mostGeneral m ≡ Scalar (record { 0 = trailingZeros 16 m })
+pub lowest : (m : ℕ) → 0 < m → m < 2 ^ 12 → mostGeneral m ≡ accepted (trailingZeros 16 m ∷ [])
 unfolding mostGeneral
 lowest m p h = simp (lt-ltb _ _ h, bits-first 16 12 m (lit≤ tt) p h)
 
@@ -33,14 +34,10 @@ own k z o = go (ltb k 12) refl
         eqb→eq _ _ (simp (lt-leb k 1 (omega arith)) at (at (λ i x. either (leb i 1) (eqb (singletonOf i) (convertibleFrom i))) scalars tt k (ltb-true _ _ e)))
     go false e = simp e
 
--- a bit of the mask that a scalar converts to, against the definition: one test at each of the 144 pairs
-pub reached : (i j : ℕ) → i < 12 → j < 12 → eqb (convertibleFrom i / 2 ^ j % 2) 1 ≡ converts i j
-unfolding convertibleFrom converts
+-- a member of the set that a scalar converts to, against the definition: one test at each of the 144 pairs
+pub reached : (i j : ℕ) → i < 12 → j < 12 → member j (convertibleFrom i) ≡ converts i j
+unfolding member convertibleFrom converts
 reached i j h k = same→eq _ _ (at (λ j _. pair i j) scalars (at (λ i _. every (λ j _. pair i j) 0 scalars) scalars tt i h) j k)
   where
     pair : ℕ → ℕ → Bool
-    pair i j = same (eqb (convertibleFrom i / 2 ^ j % 2) 1) (converts i j)
-
--- of known scalars, whether one converts to the other is what conversion says
-pub known-converts : (a b : ℕ) → a < 12 → b < 12 → both (ltb a 12) (both (ltb b 12) (converts a b)) ≡ converts a b
-known-converts a b h k = simp (lt-ltb _ _ h, lt-ltb _ _ k)
+    pair i j = same (member j (convertibleFrom i)) (converts i j)

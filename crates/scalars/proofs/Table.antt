@@ -44,15 +44,15 @@ same→eq false true t = absurd t
 same→eq false false t = refl
 
 -- a table of a function's values, n of them from i on
-abbrev pub tabulate : (ℕ → ℕ) → ℕ → ℕ → List ℕ
+abbrev pub tabulate {ℓ} : {A : Type ℓ} → (ℕ → A) → ℕ → ℕ → List A
 tabulate f zero i = []
 tabulate f (suc n) i = f i ∷ tabulate f n (suc i)
 
-tabulated : (f : ℕ → ℕ) (n i k : ℕ) → k < n → getD (tabulate f n i) k 0 ≡ f (i + k)
-tabulated f zero i k h = absurd (not-suc-le-zero h)
-tabulated f (suc n) i zero h = ap f (sym (add-zero i))
-tabulated f (suc n) i (suc k) h = tabulated f n (suc i) k (le-of-suc-le-suc h) ∙ ap f (suc-add i k ∙ sym (add-suc i k))
+tabulated {ℓ} : {A : Type ℓ} (d : A) (f : ℕ → A) (n i k : ℕ) → k < n → getD (tabulate f n i) k d ≡ f (i + k)
+tabulated d f zero i k h = absurd (not-suc-le-zero h)
+tabulated d f (suc n) i zero h = ap f (sym (add-zero i))
+tabulated d f (suc n) i (suc k) h = tabulated d f n (suc i) k (le-of-suc-le-suc h) ∙ ap f (suc-add i k ∙ sym (add-suc i k))
 
 -- an entry of such a table
-pub entry : (f : ℕ → ℕ) (n k : ℕ) → k < n → getD (tabulate f n 0) k 0 ≡ f k
-entry f n k h = tabulated f n 0 k h ∙ ap f (zero-add k)
+pub entry {ℓ} : {A : Type ℓ} (d : A) (f : ℕ → A) (n k : ℕ) → k < n → getD (tabulate f n 0) k d ≡ f k
+entry d f n k h = tabulated d f n 0 k h ∙ ap f (zero-add k)

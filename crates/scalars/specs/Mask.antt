@@ -72,9 +72,6 @@ abbrev pub headOr : ℕ → List ℕ → ℕ
 headOr d [] = d
 headOr d (k ∷ ks) = k
 
-abbrev pub isOne : List ℕ → Bool
-isOne ks = eqb (length ks) 1
-
 -- the list, and behind it blanks up to n entries
 abbrev pub padded {ℓ} : {A : Type ℓ} → ℕ → A → List A → List A
 padded n blank xs = xs ++ replicate (n - length xs) blank

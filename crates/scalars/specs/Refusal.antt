@@ -3,32 +3,18 @@ use Prim.Native.Nat.{ℕ}
 use Rattle.scalars.specs.declared.refusal.Refusal.{Refusal}
 use Rattle.scalars.specs.declared.refusal.Refusal.the-variants.{EmptySet, SeveralConstructors, TooMany, NoSuchArgument, WrongCount, NoRuleLeft, Unknown, IllFormed, TooLarge, NoRoom, NothingToCombine, NoConsensus, NoConclusion}
 
-abbrev pub numberOf : Refusal → ℕ
-numberOf (EmptySet p) = 1
-numberOf SeveralConstructors = 2
-numberOf TooMany = 3
-numberOf (NoSuchArgument p) = 4
-numberOf (WrongCount p) = 5
-numberOf (NoRuleLeft p) = 6
-numberOf (Unknown p) = 7
-numberOf (IllFormed p) = 8
-numberOf (TooLarge p) = 9
-numberOf (NoRoom p) = 10
-numberOf NothingToCombine = 11
-numberOf (NoConsensus p) = 12
-numberOf NoConclusion = 13
-
-abbrev pub placeOf : Refusal → ℕ
-placeOf (EmptySet p) = p
-placeOf SeveralConstructors = 0
-placeOf TooMany = 0
-placeOf (NoSuchArgument p) = p
-placeOf (WrongCount p) = p
-placeOf (NoRuleLeft p) = p
-placeOf (Unknown p) = p
-placeOf (IllFormed p) = p
-placeOf (TooLarge p) = p
-placeOf (NoRoom p) = p
-placeOf NothingToCombine = 0
-placeOf (NoConsensus p) = p
-placeOf NoConclusion = 0
+-- number, and place
+abbrev pub numbered : Refusal → ℕ × ℕ
+numbered (EmptySet p) = (1, p)
+numbered SeveralConstructors = (2, 0)
+numbered TooMany = (3, 0)
+numbered (NoSuchArgument p) = (4, p)
+numbered (WrongCount p) = (5, p)
+numbered (NoRuleLeft p) = (6, p)
+numbered (Unknown p) = (7, p)
+numbered (IllFormed p) = (8, p)
+numbered (TooLarge p) = (9, p)
+numbered (NoRoom p) = (10, p)
+numbered NothingToCombine = (11, 0)
+numbered (NoConsensus p) = (12, p)
+numbered NoConclusion = (13, 0)

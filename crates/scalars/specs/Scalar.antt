@@ -1,15 +1,13 @@
 -- Sets of scalars: the sets that the Rust names, what a scalar converts to as a set, and the preferred scalar, which is the lowest.
 use mathlib.Core.Bool.{Bool, not}
 use mathlib.Core.List.{List, [], _∷_}
-use Prim.Native.Nat.{ℕ, _^_}
+use Prim.Native.Nat.{ℕ, _/_, _^_}
 use lib.Dec.{ltb}
-use Rattle.scalars.specs.Mask.{choose, filter, bits, maskOf}
+use Rattle.scalars.specs.Mask.{choose, both, odd, filter, bits, maskOf}
+use Rattle.scalars.specs.Paper.{Paper, accepted, refusal}
 use Rattle.scalars.specs.Domain.{scalars, abstract?, integer?, float?, numeric?, converts, concreteInteger?, concreteFloat?}
-use Rattle.scalars.specs.declared.refusal.Refusal.the-variants.{EmptySet, Unknown}
 use Rattle.scalars.specs.declared.scalar_set.NamedSets.{NamedSets}
 use Rattle.scalars.specs.declared.scalar_set.ScalarSet.{ScalarSet}
-use Rattle.scalars.specs.declared.scalar_set.ScalarAnswer.{ScalarAnswer}
-use Rattle.scalars.specs.declared.scalar_set.ScalarAnswer.the-variants.{Scalar, Refused}
 
 -- the mask of the scalars that pass
 abbrev pub scalarsThat : (ℕ → Bool) → ℕ
@@ -22,14 +20,18 @@ singletonOf k = choose (ltb k 12) (2 ^ k) 0
 unfoldable pub convertibleFrom : ℕ → ℕ
 convertibleFrom k = choose (ltb k 12) (scalarsThat (converts k)) 0
 
+-- a scalar is a member of a set
+unfoldable pub member : ℕ → ℕ → Bool
+member k m = both (ltb k 12) (odd (m / 2 ^ k))
+
 -- the first of a set's members; of none, refusal 1
-abbrev pub firstScalar : List ℕ → ScalarAnswer
-firstScalar [] = Refused (EmptySet 0)
-firstScalar (k ∷ ks) = Scalar (record { 0 = k })
+abbrev pub firstScalar : List ℕ → Paper
+firstScalar [] = refusal 1 0 (255 ∷ [])
+firstScalar (k ∷ ks) = accepted (k ∷ [])
 
 -- the lowest bit set; an unknown bit is refusal 7
-unfoldable pub mostGeneral : ℕ → ScalarAnswer
-mostGeneral m = choose (ltb m (2 ^ 12)) (firstScalar (bits 12 m)) (Refused (Unknown 0))
+unfoldable pub mostGeneral : ℕ → Paper
+mostGeneral m = choose (ltb m (2 ^ 12)) (firstScalar (bits 12 m)) (refusal 7 0 (255 ∷ []))
 
 -- the sets that the Rust names
 abbrev pub setOf : (ℕ → Bool) → ScalarSet

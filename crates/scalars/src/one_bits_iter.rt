@@ -6,6 +6,7 @@
 ghost use mathlib.Core.Path.{_≡_};
 ghost use Rattle.scalars.specs.Mask.{bits, headOr};
 ghost use Rattle.scalars.specs.OneBits.{stepOf, listed, unlisted};
+ghost use Rattle.scalars.specs.Paper.{walkPaper, membersPaper};
 use crate::answer::CountAnswer;
 use crate::refusal::Refusal;
 
@@ -33,7 +34,7 @@ pub struct Members {
 impl OneBitsIter {
     // The next set bit and what is left of the walk.
     pub fn next(self) -> BitStep
-        ensures { λ r. ⌜ r ≡ stepOf (bits 64 (self .0)) ⌝ }
+        ensures { λ r. ⌜ walkPaper r ≡ stepOf (bits 64 (self .0)) ⌝ }
     {
         let left = self.0;
         if left == 0 {
@@ -55,7 +56,7 @@ impl OneBit {
 
 // The members of a mask, lowest first.
 pub fn members_of(mask: u16) -> Members
-    ensures { λ r. ⌜ r ≡ listed (bits 16 mask) ⌝ }
+    ensures { λ r. ⌜ membersPaper r ≡ listed (bits 16 mask) ⌝ }
 {
     let mut numbers = [255u8; 16];
     let mut count: usize = 0;
@@ -74,7 +75,7 @@ pub fn members_of(mask: u16) -> Members
 
 // The answer to a set with an unknown bit.
 pub fn no_members() -> Members
-    ensures { λ r. ⌜ r ≡ unlisted ⌝ }
+    ensures { λ r. ⌜ membersPaper r ≡ unlisted ⌝ }
 {
     Members {
         answer: CountAnswer::Refused(Refusal::Unknown(0)),

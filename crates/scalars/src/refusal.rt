@@ -4,7 +4,7 @@
 // place of its own carries it: a byte offset, an index, or the bytes that are needed. The other cases stand at place 0.
 
 ghost use mathlib.Core.Path.{_≡_};
-ghost use Rattle.scalars.specs.Refusal.{numberOf, placeOf};
+ghost use Rattle.scalars.specs.Refusal.{numbered};
 
 pub enum Refusal {
     // 1: a count, a preferred rule, a preferred scalar or a size is asked of an empty set.
@@ -38,7 +38,7 @@ pub enum Refusal {
 impl Refusal {
     // The refusal's number, 1 to 13.
     pub fn number(self) -> u8
-        ensures { λ r. ⌜ r ≡ numberOf self ⌝ }
+        ensures { λ r. ⌜ r ≡ numbered self .0 ⌝ }
     {
         match self {
             Refusal::EmptySet(_) => 1,
@@ -59,7 +59,7 @@ impl Refusal {
 
     // The refusal's place; 0 where the table gives none.
     pub fn place(self) -> usize
-        ensures { λ r. ⌜ r ≡ placeOf self ⌝ }
+        ensures { λ r. ⌜ r ≡ numbered self .1 ⌝ }
     {
         match self {
             Refusal::EmptySet(at) => at,

@@ -9,7 +9,8 @@ ghost use Prim.Native.Nat.{_^_};
 ghost use lib.Bits.{bitAnd};
 ghost use Rattle.scalars.specs.Mask.{upTo};
 ghost use Rattle.scalars.specs.OneBits.{membersWithin};
-ghost use Rattle.scalars.specs.Scalar.{mostGeneral, convertibleFrom, singletonOf, namedSets};
+ghost use Rattle.scalars.specs.Paper.{scalarPaper, membersPaper};
+ghost use Rattle.scalars.specs.Scalar.{mostGeneral, member, convertibleFrom, singletonOf, namedSets};
 use crate::one_bits_iter::Members;
 use crate::one_bits_iter::members_of;
 use crate::one_bits_iter::no_members;
@@ -169,9 +170,20 @@ impl ScalarSet {
         ScalarSet(self.0 & other.0)
     }
 
+    // Whether the scalar is a member; an unknown one is of no set.
+    pub fn contains(self, scalar: Scalar) -> bool
+        ensures { λ r. ⌜ r ≡ member (scalar .0) (self .0) ⌝ }
+    {
+        let k = scalar.0;
+        if Scalar::COUNT <= k {
+            return false;
+        }
+        (self.0 >> k) % 2 == 1
+    }
+
     // The lowest member. Refused 7 for an unknown bit, then 1 for the empty set.
     pub fn most_general_scalar(self) -> ScalarAnswer
-        ensures { λ r. ⌜ r ≡ mostGeneral (self .0) ⌝ }
+        ensures { λ r. ⌜ scalarPaper r ≡ mostGeneral (self .0) ⌝ }
     {
         let mask = self.0;
         if ScalarSet::ALL < mask {
@@ -185,7 +197,7 @@ impl ScalarSet {
 
     // The members' numbers, lowest first. Refused 7 for an unknown bit.
     pub fn members(self) -> Members
-        ensures { λ r. ⌜ r ≡ membersWithin 12 (self .0) ⌝ }
+        ensures { λ r. ⌜ membersPaper r ≡ membersWithin 12 (self .0) ⌝ }
     {
         let mask = self.0;
         if ScalarSet::ALL < mask {

@@ -1,73 +1,45 @@
 -- A set of either kind answers what its kind answers.
+use mathlib.Core.List as L
+use mathlib.Core.List.{_∷_, _++_}
 use Prim.Native.Nat.{ℕ}
-use lib.ListN.{replicate}
+use lib.ListN.{drop, replicate}
+use Rattle.scalars.specs.Paper.{Paper, accepted, refusal, whenAccepted}
 use Rattle.rules.specs.Rule.{blankRule}
-use Rattle.lists.specs.List.{mostRules, listArg, listStep, listEmpty, listCount, listPreferred, listListing, listAllowed}
-use Rattle.regular.specs.Regular.{emptyRegular, regularEmpty, regularCount, regularArg, regularConcrete, regularPreferred, regularListing, regularAllowed}
-use Rattle.scalars.specs.declared.answer.Verdict.the-variants as verdict
-use Rattle.scalars.specs.declared.answer.Test.{Test}
-use Rattle.scalars.specs.declared.answer.CountAnswer.{CountAnswer}
+use Rattle.rules.specs.RulePaper.{noRule, rulesValues}
+use Rattle.regular.specs.declared.regular.Regular.{Regular}
+use Rattle.lists.specs.List.{mostRules}
+use Rattle.lists.specs.declared.list.List.{List}
 use Rattle.sets.specs.declared.any_overload_set.AnyOverloadSet.{AnyOverloadSet}
 use Rattle.sets.specs.declared.any_overload_set.SetKind.{SetKind}
 use Rattle.sets.specs.declared.any_overload_set.SetKind.the-variants as kind
-use Rattle.sets.specs.declared.any_overload_set.AnyAnswer.{AnyAnswer}
-use Rattle.lists.specs.declared.list.List.{List}
-use Rattle.lists.specs.declared.list.ListAnswer.{ListAnswer}
-use Rattle.lists.specs.declared.list.ChosenAnswer.{ChosenAnswer}
-use Rattle.lists.specs.declared.list.ChosenAnswer.the-variants as chosen
-use Rattle.rules.specs.declared.listing.Listing.{Listing}
-use Rattle.rules.specs.declared.listing.AllowedArgs.{AllowedArgs}
-use Rattle.regular.specs.declared.regular.Regular.{Regular}
-use Rattle.regular.specs.declared.regular.RegularAnswer.{RegularAnswer}
-use Rattle.regular.specs.declared.regular.RegularAnswer.the-variants as regular
-use Rattle.rules.specs.declared.rule.Keep.the-variants.{Concrete}
-use Rattle.rules.specs.declared.rule.RuleAnswer.{RuleAnswer}
-use Rattle.rules.specs.declared.rule.RuleAnswer.the-variants as rule
 
-unfoldable pub ofRegular : Regular → AnyOverloadSet
-ofRegular r = record { kind = kind.Regular r; rules = replicate mostRules blankRule }
+-- ---- what a kind answers, as a set of either kind
 
-unfoldable pub ofList : List → AnyOverloadSet
-ofList l = record { kind = kind.List (l .len) (l .members); rules = l .rules }
+-- the values of an answer, accepted or refused, in another form
+abbrev pub inForm : (L.List ℕ → L.List ℕ) → Paper → Paper
+inForm f (accepted vs) = accepted (f vs)
+inForm f (refusal n p vs) = refusal n p (f vs)
+
+-- the rules beside a Regular set, none of them in use
+unfoldable pub noRules : L.List ℕ
+noRules = rulesValues (replicate mostRules blankRule)
+
+abbrev pub ofRegular : Paper → Paper
+ofRegular p = inForm (λ vs. 0 ∷ (vs ++ noRules)) p
+
+abbrev pub ofList : Paper → Paper
+ofList p = inForm (λ vs. 1 ∷ vs) p
+
+-- ---- the operations
 
 -- by the kind of a set: what a Regular set answers, or what a List does
-abbrev pub byKind {ℓ} : {A : Type ℓ} → (Regular → A) → (ℕ → ℕ → A) → SetKind → A
+abbrev pub byKind : (Regular → Paper) → (ℕ → ℕ → Paper) → SetKind → Paper
 byKind f g (kind.Regular r) = f r
 byKind f g (kind.List n m) = g n m
 
-abbrev pub bySet {ℓ} : {A : Type ℓ} → (Regular → A) → (List → A) → AnyOverloadSet → A
+abbrev pub bySet : (Regular → Paper) → (List → Paper) → AnyOverloadSet → Paper
 bySet f g s = byKind f (λ n m. g (record { rules = s .rules; len = n; members = m })) (s .kind)
 
-unfoldable pub anyEmpty : AnyOverloadSet → Test
-anyEmpty s = bySet regularEmpty listEmpty s
-
-unfoldable pub anyCount : AnyOverloadSet → CountAnswer
-anyCount s = bySet regularCount listCount s
-
--- a set in an answer, the empty one of its kind on a refusal
-abbrev pub anyRegular : RegularAnswer → AnyAnswer
-anyRegular (regular.Set r) = record { answer = verdict.Accepted; set = ofRegular r }
-anyRegular (regular.Refused why) = record { answer = verdict.Refused why; set = ofRegular emptyRegular }
-
-abbrev pub anyList : ListAnswer → AnyAnswer
-anyList a = record { answer = a .answer; set = ofList (a .list) }
-
-unfoldable pub anyArg : ℕ → ℕ → AnyOverloadSet → AnyAnswer
-anyArg i t s = bySet (λ r. anyRegular (regularArg i t r)) (λ l. anyList (listArg i t l)) s
-
-unfoldable pub anyConcrete : AnyOverloadSet → AnyAnswer
-anyConcrete s = bySet (λ r. anyRegular (regularConcrete r)) (λ l. anyList (listStep Concrete l)) s
-
 -- the preferred rule, without a List's index
-abbrev pub alone : ChosenAnswer → RuleAnswer
-alone (chosen.Rule c) = rule.Rule (c .rule)
-alone (chosen.Refused why) = rule.Refused why
-
-unfoldable pub anyPreferred : AnyOverloadSet → RuleAnswer
-anyPreferred s = bySet regularPreferred (λ l. alone (listPreferred l)) s
-
-unfoldable pub anyListing : AnyOverloadSet → Listing
-anyListing s = bySet regularListing listListing s
-
-unfoldable pub anyAllowed : ℕ → AnyOverloadSet → AllowedArgs
-anyAllowed i s = bySet (regularAllowed i) (listAllowed i) s
+abbrev pub alone : Paper → Paper
+alone p = whenAccepted p (λ vs. accepted (drop 1 vs)) noRule

@@ -2,7 +2,16 @@
 // and the array of a List's rules stands beside the enum.
 
 ghost use mathlib.Core.Path.{_≡_};
-ghost use Rattle.sets.specs.AnyOverloadSet.{ofRegular, ofList, anyEmpty, anyCount, anyArg, anyConcrete, anyPreferred, anyListing, anyAllowed, anyRegular, anyList, alone};
+ghost use mathlib.Core.List.{_∷_, _++_};
+ghost use Rattle.scalars.specs.Paper.{testPaper, countPaper};
+ghost use Rattle.rules.specs.RulePaper.{rulePaper, listingPaper, typesPaper};
+ghost use Rattle.regular.specs.SetPaper.{regularValues, regularPaper};
+ghost use Rattle.lists.specs.ChosenPaper.{listPaper, chosenPaper};
+ghost use Rattle.sets.specs.AnyPaper.{anyValues, anyPaper};
+ghost use Rattle.regular.specs.Regular.{checkedRegular, regularEmpty, regularCount, regularArg, regularConcrete, regularPreferred, regularListing, regularAllowed};
+ghost use Rattle.lists.specs.List.{checkedList, listEmpty, listCount, listArg, listStep, listPreferred, listListing, listAllowed};
+ghost use Rattle.rules.specs.declared.rule.Keep.the-variants as keep;
+ghost use Rattle.sets.specs.AnyOverloadSet.{noRules, ofRegular, ofList, bySet, alone};
 use lists::ChosenAnswer;
 use lists::List;
 use lists::ListAnswer;
@@ -35,30 +44,26 @@ pub struct AnyAnswer {
 }
 
 impl AnyOverloadSet {
-    // A Regular set as a set of either kind.
-    pub fn from_regular(set: Regular) -> AnyOverloadSet
-        ensures { λ r. ⌜ r ≡ ofRegular set ⌝ }
+    // A Regular set as a set of either kind, refused as its verdict is.
+    pub fn from_regular(set: Regular) -> AnyAnswer
+        ensures { λ r. ⌜ anyPaper r ≡ ofRegular (checkedRegular set) ⌝ }
     {
-        AnyOverloadSet {
-            kind: SetKind::Regular(set),
-            rules: [Rule::BLANK; 63],
+        match set.verdict() {
+            Verdict::Accepted => regular_answer(RegularAnswer::Set(set)),
+            Verdict::Refused(why) => regular_answer(RegularAnswer::Refused(why)),
         }
     }
 
-    // A List as a set of either kind.
-    pub fn from_list(list: List) -> AnyOverloadSet
-        ensures { λ r. ⌜ r ≡ ofList list ⌝ }
+    // A List as a set of either kind, tested as `checked` does, with 255 in what is not in use.
+    pub fn from_list(list: List) -> AnyAnswer
+        ensures { λ r. ⌜ anyPaper r ≡ ofList (checkedList list) ⌝ }
     {
-        let rules = list.rules;
-        AnyOverloadSet {
-            kind: SetKind::List(list.len, list.members),
-            rules: rules,
-        }
+        list_answer(list.checked())
     }
 
     // Whether the set has no rule, as its kind answers.
     pub fn is_empty(self) -> Test
-        ensures { λ r. ⌜ r ≡ anyEmpty self ⌝ }
+        ensures { λ r. ⌜ testPaper r ≡ bySet regularEmpty listEmpty self ⌝ }
     {
         let kind = self.kind;
         let rules = self.rules;
@@ -70,7 +75,7 @@ impl AnyOverloadSet {
 
     // The least number of arguments, as its kind answers.
     pub fn min_arguments(self) -> CountAnswer
-        ensures { λ r. ⌜ r ≡ anyCount self ⌝ }
+        ensures { λ r. ⌜ countPaper r ≡ bySet regularCount listCount self ⌝ }
     {
         let kind = self.kind;
         let rules = self.rules;
@@ -82,7 +87,7 @@ impl AnyOverloadSet {
 
     // The most arguments, as its kind answers.
     pub fn max_arguments(self) -> CountAnswer
-        ensures { λ r. ⌜ r ≡ anyCount self ⌝ }
+        ensures { λ r. ⌜ countPaper r ≡ bySet regularCount listCount self ⌝ }
     {
         let kind = self.kind;
         let rules = self.rules;
@@ -94,7 +99,7 @@ impl AnyOverloadSet {
 
     // The rules that take a type at an argument, as its kind answers.
     pub fn arg(self, i: usize, t: u8) -> AnyAnswer
-        ensures { λ r. ⌜ r ≡ anyArg i t self ⌝ }
+        ensures { λ r. ⌜ anyPaper r ≡ bySet (λ r. ofRegular (regularArg i t r)) (λ l. ofList (listArg i t l)) self ⌝ }
     {
         let kind = self.kind;
         let rules = self.rules;
@@ -106,7 +111,7 @@ impl AnyOverloadSet {
 
     // The rules without an abstract argument, as its kind answers.
     pub fn concrete_only(self) -> AnyAnswer
-        ensures { λ r. ⌜ r ≡ anyConcrete self ⌝ }
+        ensures { λ r. ⌜ anyPaper r ≡ bySet (λ r. ofRegular (regularConcrete r)) (λ l. ofList (listStep keep.Concrete l)) self ⌝ }
     {
         let kind = self.kind;
         let rules = self.rules;
@@ -122,7 +127,7 @@ impl AnyOverloadSet {
 
     // The preferred rule, as its kind answers.
     pub fn most_preferred(self) -> RuleAnswer
-        ensures { λ r. ⌜ r ≡ anyPreferred self ⌝ }
+        ensures { λ r. ⌜ rulePaper r ≡ bySet regularPreferred (λ l. alone (listPreferred l)) self ⌝ }
     {
         let kind = self.kind;
         let rules = self.rules;
@@ -138,7 +143,7 @@ impl AnyOverloadSet {
 
     // The rules in order, as its kind answers.
     pub fn overload_list(self) -> Listing
-        ensures { λ r. ⌜ r ≡ anyListing self ⌝ }
+        ensures { λ r. ⌜ listingPaper r ≡ bySet regularListing listListing self ⌝ }
     {
         let kind = self.kind;
         let rules = self.rules;
@@ -150,7 +155,7 @@ impl AnyOverloadSet {
 
     // The types that an argument may have, as its kind answers.
     pub fn allowed_args(self, i: usize) -> AllowedArgs
-        ensures { λ r. ⌜ r ≡ anyAllowed i self ⌝ }
+        ensures { λ r. ⌜ typesPaper r ≡ bySet (regularAllowed i) (listAllowed i) self ⌝ }
     {
         let kind = self.kind;
         let rules = self.rules;
@@ -172,37 +177,51 @@ fn list_of(rules: [Rule; 63], len: usize, members: u64) -> List
     }
 }
 
+// A Regular set as a set of either kind, untested.
+fn any_regular(set: Regular) -> AnyOverloadSet
+    ensures { λ r. ⌜ anyValues r ≡ 0 ∷ (regularValues set ++ noRules) ⌝ }
+{
+    AnyOverloadSet {
+        kind: SetKind::Regular(set),
+        rules: [Rule::BLANK; 63],
+    }
+}
+
 // A Regular set's answer, for sets of either kind.
 fn regular_answer(answer: RegularAnswer) -> AnyAnswer
-    ensures { λ r. ⌜ r ≡ anyRegular answer ⌝ }
+    ensures { λ r. ⌜ anyPaper r ≡ ofRegular (regularPaper answer) ⌝ }
 {
     match answer {
         RegularAnswer::Set(set) => AnyAnswer {
             answer: Verdict::Accepted,
-            set: AnyOverloadSet::from_regular(set),
+            set: any_regular(set),
         },
         RegularAnswer::Refused(why) => AnyAnswer {
             answer: Verdict::Refused(why),
-            set: AnyOverloadSet::from_regular(Regular::EMPTY),
+            set: any_regular(Regular::EMPTY),
         },
     }
 }
 
 // A List's answer, for sets of either kind.
 fn list_answer(answer: ListAnswer) -> AnyAnswer
-    ensures { λ r. ⌜ r ≡ anyList answer ⌝ }
+    ensures { λ r. ⌜ anyPaper r ≡ ofList (listPaper answer) ⌝ }
 {
     let verdict = answer.answer;
     let list = answer.list;
+    let rules = list.rules;
     AnyAnswer {
         answer: verdict,
-        set: AnyOverloadSet::from_list(list),
+        set: AnyOverloadSet {
+            kind: SetKind::List(list.len, list.members),
+            rules: rules,
+        },
     }
 }
 
 // The preferred rule of a List without its index.
 fn rule_alone(answer: ChosenAnswer) -> RuleAnswer
-    ensures { λ r. ⌜ r ≡ alone answer ⌝ }
+    ensures { λ r. ⌜ rulePaper r ≡ alone (chosenPaper answer) ⌝ }
 {
     match answer {
         ChosenAnswer::Rule(chosen) => {

@@ -3,30 +3,29 @@
 -- Rests on the database only by the laws of `functions/proofs/Database.antt`. Assumes nothing.
 use mathlib.Core.Path.{_≡_, ap, subst}
 use mathlib.Core.Bool.{Bool, true, false}
-use mathlib.Core.List.{List}
+use mathlib.Core.List.{List, _∷_}
 use Prim.Native.Nat.{ℕ, _+_, _≤_, _<_}
 use native.Mathlib.Omega.{arith}
 use borrow.Author.Tests.{lt-ltb, le-ltb}
 use lib.Dec.{ltb}
-use lib.ListN.{length}
+use lib.ListN.{length, drop}
 use Rattle.scalars.specs.Mask.{choose}
 use Rattle.scalars.specs.Domain.{firstUnknown}
 use Rattle.rules.specs.Signature.{Signature}
 use Rattle.rules.specs.Rule.{argumentsOf, ruleOf}
 use Rattle.overloads.specs.Choice.{Choice, chosen, wrongCount, noneAfter, noneConcrete, resolve}
-use Rattle.overloads.specs.Taking.{OneLength, Says}
+use Rattle.overloads.specs.claims.Taking.{OneLength, Says}
 use Rattle.overloads.proofs.Choices.{resolve-says}
 use Rattle.rules.proofs.Records.{record-says}
+use Rattle.rules.proofs.RulePapers.{ruleNamed}
 use Rattle.functions.specs.Functions.{functionCount, listingOf}
 use Rattle.overloads.specs.Call.{answered, callOf}
-use Rattle.scalars.specs.Refusal.{numberOf, placeOf}
+use Rattle.scalars.specs.Paper.{Paper, accepted, refusal}
+use Rattle.rules.specs.RulePaper.{ruleValues}
+use Rattle.lists.specs.ChosenPaper.{noChoice}
 use Rattle.lists.specs.declared.list.Chosen.{Chosen}
-use Rattle.lists.specs.declared.list.ChosenAnswer.{ChosenAnswer}
-use Rattle.lists.specs.declared.list.ChosenAnswer.the-variants as answers
-use Rattle.scalars.specs.declared.refusal.Refusal.{Refusal}
-use Rattle.scalars.specs.declared.refusal.Refusal.the-variants.{Unknown}
 use Rattle.machine.specs.Machine.{mostOperands}
-use Rattle.worksheet.specs.SecondPass.{Within}
+use Rattle.worksheet.specs.private.SecondPass.{Within}
 use Rattle.functions.proofs.Database.{one-length, four-arguments, result-known}
 
 -- what is known of a choice
@@ -57,9 +56,9 @@ module _ (switch : Bool) (f : ℕ) (ts : List ℕ) where
   chose = chose-from (resolve switch (listingOf f) ts) (resolve-says switch (listingOf f) ts (one-length f))
 
   -- what is known of an answer, whatever was asked
-  abbrev Fine : ChosenAnswer → Type 0
-  Fine (answers.Rule x) = length ts ≤ length (argumentsOf (x .rule))
-  Fine (answers.Refused why) = numberOf why ≡ 6 → (0 < placeOf why) × (placeOf why ≤ length ts)
+  abbrev Fine : Paper → Type 0
+  Fine (accepted vs) = length ts ≤ length (argumentsOf (ruleNamed (drop 1 vs)))
+  Fine (refusal n p vs) = n ≡ 6 → (0 < p) × (p ≤ length ts)
 
   answered-fine : (c : Choice) → Chose ts c → Fine (answered c)
   answered-fine (chosen i r) h = omega (arith, ap length (h .fields), h .many)
@@ -72,18 +71,19 @@ module _ (switch : Bool) (f : ℕ) (ts : List ℕ) where
   fine = go (ltb f functionCount) (ltb (firstUnknown ts) (length ts))
     where
       go : (b b′ : Bool) → Fine
-          (choose b (choose b′ (answers.Refused (Unknown (1 + firstUnknown ts))) (answered (resolve switch (listingOf f) ts)))
-          (answers.Refused (Unknown 0)))
+          (choose b (choose b′ (refusal 7 (1 + firstUnknown ts) noChoice) (answered (resolve switch (listingOf f) ts)))
+          (refusal 7 0 noChoice))
       go false b′ = λ e. absurd (omega arith)
       go true true = λ e. absurd (omega arith)
       go true false = answered-fine (resolve switch (listingOf f) ts) chose
 
-  pub rule-takes : {x : Chosen} → callOf functionCount listingOf switch f ts ≡ answers.Rule x → length ts ≤ length (argumentsOf (x .rule))
-  rule-takes e = subst Fine e fine
+  pub rule-takes : (x : Chosen) → callOf functionCount listingOf switch f ts ≡ accepted (x .index ∷ ruleValues (x .rule))
+      → length ts ≤ length (argumentsOf (x .rule))
+  rule-takes x e = subst Fine e fine
 
-  pub refusal-within : (why : Refusal) (from : ℕ) → callOf functionCount listingOf switch f ts ≡ answers.Refused why → from + length ts ≤ mostOperands
-      → Within why from
-  refusal-within why from e h n = let w = subst Fine e fine in let k = w n in (k .0, omega arith)
+  pub refusal-within : (n p from : ℕ) → callOf functionCount listingOf switch f ts ≡ refusal n p noChoice
+      → from + length ts ≤ mostOperands → Within n p from
+  refusal-within n p from e h six = let w = subst Fine e fine in let k = w six in (k .0, omega arith)
 
   -- a known function of known operands is answered by its listing
   pub call-known : f < functionCount → length ts ≤ firstUnknown ts → callOf functionCount listingOf switch f ts ≡ answered (resolve switch (listingOf f) ts)

@@ -16,19 +16,22 @@ use Rattle.functions.specs.Functions.{functionCount, listingOf}
 use Rattle.overloads.specs.Call.{answered, callOf}
 use Rattle.rules.specs.declared.rule.Rule.{Rule}
 use Rattle.lists.specs.declared.list.Chosen.{Chosen}
-use Rattle.lists.specs.declared.list.ChosenAnswer.the-variants as answers
 use Rattle.scalars.specs.declared.refusal.Refusal.{Refusal}
-use Rattle.scalars.specs.declared.refusal.Refusal.the-variants.{EmptySet, WrongCount, NoRuleLeft}
+use Rattle.scalars.specs.Paper.{accepted, refusal, refused, values}
+use Rattle.rules.specs.RulePaper.{ruleValues}
+use Rattle.lists.specs.ChosenPaper.{noChoice}
 use Rattle.worksheet.specs.declared.sheet.Sheet.{Sheet}
 use Rattle.worksheet.specs.declared.stack.Stack.{Stack}
 use Rattle.worksheet.specs.declared.progress.Progress.{Progress}
 use Rattle.worksheet.specs.declared.progress.Verdict.the-variants.{Clean, Wrong}
 use Rattle.machine.specs.Line.{callLine, callMark, conversions, callLines, encode}
 use Rattle.worksheet.specs.Typer.{conclude}
-use Rattle.worksheet.specs.Answer.{enoughBytes}
-use Rattle.worksheet.specs.Sheet.{Wrote}
-use Rattle.worksheet.specs.Stack.{typesOn, Pushed, Cut}
-use Rattle.worksheet.specs.SecondPass.{placedAt, ConversionRoom, CallThere, CallClaim, CallTyped}
+use Rattle.worksheet.specs.claims.Room.{enoughBytes}
+use Rattle.worksheet.specs.private.Sheet.{Wrote}
+use Rattle.worksheet.specs.private.Stack.{typesOn, Pushed, Cut}
+use Rattle.worksheet.specs.private.SecondPass.{foundPaper, placedAt, ConversionRoom, CallThere, CallClaim, CallTyped}
+use Rattle.rules.proofs.RulePapers.{ruleNamed}
+use Rattle.expressions.proofs.Answers.{accepted-refused}
 use Rattle.machine.proofs.LineBytes.{encode-append}
 use Rattle.worksheet.proofs.Room.{four-each, few-conversions}
 use Rattle.worksheet.proofs.Written.{wrote-both, wrote-as}
@@ -62,10 +65,6 @@ module _ (l : List ℕ) (top n : ℕ) (ts us : List ℕ) (e : take top l ≡ ts 
       let i : top - n + k ≡ length ts + k = omega arith in
       sym (getD-take top l (top - n + k) 0 (omega arith)) ∙ ap₂ (λ m j. getD m j 0) e i ∙ getD-append-add ts us k 0
 
--- an answer cannot be both
-clash : {A : Type 0} {x : Chosen} {why : Refusal} → answers.Rule x ≡ answers.Refused why → A
-clash e = let z : _≡_ {A = ℕ} 0 1 = cc in absurd (omega arith)
-
 module _ (f n at past : ℕ) (switch : Bool) (s : Stack) (h : Sheet) where
   abbrev asked : List ℕ
   asked = partOf (s .types) (s .top) n
@@ -76,28 +75,30 @@ module _ (f n at past : ℕ) (switch : Bool) (s : Stack) (h : Sheet) where
   told ts us e m l k known =
       sym (ap (callOf functionCount listingOf switch f) (part-is (s .types) (s .top) n ts us e m l) ∙ call-known switch f us k known)
 
-  refused-by : (us qs : List ℕ) (why q : Refusal) → q ≡ placedAt at (s .top - n) (s .starts) why
+  refused-by : (us qs : List ℕ) (number place : ℕ) (q : Refusal) → refused q [] ≡ placedAt at (s .top - n) (s .starts) number place
       → ((k : ℕ) → k < n → getD (s .starts) (s .top - n + k) 0 ≡ getD qs k 0) → length us ≡ n
       → (ts ps : List ℕ) (r : Progress) → r .verdict ≡ Wrong q
-      → (c : Choice) → Chose us c → answered c ≡ answers.Refused why → CallClaim at past ts ps h r (conclude f at qs us [] c)
-  refused-by us qs why q p g m ts ps r v (chosen i r′) k e = clash e
-  refused-by us qs why q p g m ts ps r v wrongCount k e =
-      let w : why ≡ WrongCount 0 = cc in
-      v ∙ ap Wrong (p ∙ ap (placedAt at (s .top - n) (s .starts)) w)
-  refused-by us qs why q p g m ts ps r v (noneAfter j) k e =
-      let w : why ≡ NoRuleLeft (1 + j) = cc in
+      → (c : Choice) → Chose us c → answered c ≡ refusal number place noChoice → CallClaim at past ts ps h r (conclude f at qs us [] c)
+  refused-by us qs number place q p g m ts ps r v (chosen i r′) k e = accepted-refused e
+  refused-by us qs number place q p g m ts ps r v wrongCount k e =
+      let w : number ≡ 5 = cc in
+      ap foundPaper v ∙ p ∙ ap (λ k. placedAt at (s .top - n) (s .starts) k place) w
+  refused-by us qs number place q p g m ts ps r v (noneAfter j) k e =
+      let w : number ≡ 6 = cc in
+      let u : place ≡ 1 + j = cc in
       let i : s .top - n + (1 + j) - 1 ≡ s .top - n + j = omega arith in
-      v ∙ ap Wrong (p ∙ ap (placedAt at (s .top - n) (s .starts)) w
-      ∙ ap NoRuleLeft (ap (λ x. getD (s .starts) x 0) i ∙ g j (omega arith)))
-  refused-by us qs why q p g m ts ps r v noneConcrete k e =
-      let w : why ≡ EmptySet 0 = cc in
-      v ∙ ap Wrong (p ∙ ap (placedAt at (s .top - n) (s .starts)) w)
+      ap foundPaper v ∙ p ∙ ap₂ (placedAt at (s .top - n) (s .starts)) w u
+      ∙ ap (λ x. refusal 6 x []) (ap (λ x. getD (s .starts) x 0) i ∙ g j (omega arith))
+  refused-by us qs number place q p g m ts ps r v noneConcrete k e =
+      let w : number ≡ 1 = cc in
+      ap foundPaper v ∙ p ∙ ap (λ k. placedAt at (s .top - n) (s .starts) k place) w
 
-  pub call-refused : (why q : Refusal) → callOf functionCount listingOf switch f asked ≡ answers.Refused why → q ≡ placedAt at (s .top - n) (s .starts) why
+  pub call-refused : (number place : ℕ) (q : Refusal) → callOf functionCount listingOf switch f asked ≡ refusal number place noChoice
+      → refused q [] ≡ placedAt at (s .top - n) (s .starts) number place
       → CallTyped f n at past switch s h (record { verdict = Wrong q; at = past; stack = s; sheet = h })
   unfolding CallTyped
-  call-refused why q a p ts us ps qs te se um qm tl pl k known =
-      refused-by us qs why q p (at-part (s .starts) (s .top) n ps qs se qm pl) um ts ps _ refl (resolve switch (listingOf f) us)
+  call-refused number place q a p ts us ps qs te se um qm tl pl k known =
+      refused-by us qs number place q p (at-part (s .starts) (s .top) n ps qs se qm pl) um ts ps _ refl (resolve switch (listingOf f) us)
       (chose switch f us) (told ts us te um tl k known ∙ a)
 
   -- the lines of a call whose rule's record is the answer's
@@ -116,11 +117,11 @@ module _ (f n at past : ℕ) (switch : Bool) (s : Stack) (h : Sheet) where
 
     ruled-by : (ts us ps qs : List ℕ) → asked ≡ us → take (s .top - n) (s .types) ≡ ts → take (s .top - n) (s .starts) ≡ ps
         → length us ≡ n → length ts + n ≡ s .top
-        → (c : Choice) → Chose us c → answered c ≡ answers.Rule x → CallClaim at past ts ps h end (conclude f at qs us [] c)
+        → (c : Choice) → Chose us c → answered c ≡ accepted (x .index ∷ ruleValues (x .rule)) → CallClaim at past ts ps h end (conclude f at qs us [] c)
     unfolding ruleOf
     ruled-by ts us ps qs ae te pe um tl (chosen i r) k e =
         let index : i ≡ x .index = cc in
-        let rule : ruleOf r ≡ x .rule = cc in
+        let rule : ruleOf r ≡ x .rule = ap (λ p. ruleNamed (drop 1 (values p))) e in
         record {
           verdict-is = refl;
           at-is = refl;
@@ -132,11 +133,12 @@ module _ (f n at past : ℕ) (switch : Bool) (s : Stack) (h : Sheet) where
               (wrote-both (wrote-as (ap₂ (λ l y. encode (conversions l (argumentsOf y))) ae (sym rule)) conv)
               (wrote-as (ap (λ j. callMark ∷ f ∷ j ∷ n ∷ []) (sym index)) line));
         }
-    ruled-by ts us ps qs ae te pe um tl wrongCount k e = clash (sym e)
-    ruled-by ts us ps qs ae te pe um tl (noneAfter j) k e = clash (sym e)
-    ruled-by ts us ps qs ae te pe um tl noneConcrete k e = clash (sym e)
+    ruled-by ts us ps qs ae te pe um tl wrongCount k e = accepted-refused (sym e)
+    ruled-by ts us ps qs ae te pe um tl (noneAfter j) k e = accepted-refused (sym e)
+    ruled-by ts us ps qs ae te pe um tl noneConcrete k e = accepted-refused (sym e)
 
-    pub call-ruled : callOf functionCount listingOf switch f asked ≡ answers.Rule x → CallTyped f n at past switch s h end
+    pub call-ruled : callOf functionCount listingOf switch f asked ≡ accepted (x .index ∷ ruleValues (x .rule))
+        → CallTyped f n at past switch s h end
     unfolding CallTyped
     call-ruled a ts us ps qs te se um qm tl pl k known =
         ruled-by ts us ps qs (part-is (s .types) (s .top) n ts us te um tl) (front-is (s .types) (s .top) n ts us te um tl)

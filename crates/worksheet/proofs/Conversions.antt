@@ -10,11 +10,12 @@ use borrow.Author.Tests.{eq-eqb, ne-eqb}
 use lib.Dec.{eqb}
 use lib.ListN.{length, getD, drop, length-drop, drop-of-length-le}
 use lib.Seq.{drop-cons}
+use Rattle.scalars.specs.Mask.{choose}
 use Rattle.rules.specs.Rule.{argumentsOf}
 use Rattle.rules.specs.declared.rule.Rule.{Rule}
 use Rattle.worksheet.specs.declared.sheet.Sheet.{Sheet}
-use Rattle.machine.specs.Line.{conversionLine, conversionMark, unlessSame, conversions, encode}
-use Rattle.worksheet.specs.Sheet.{Wrote}
+use Rattle.machine.specs.Line.{conversionLine, conversionMark, conversions, encode}
+use Rattle.worksheet.specs.private.Sheet.{Wrote}
 use Rattle.worksheet.proofs.Written.{wrote-both, wrote-as, wrote-nothing}
 
 -- the conversions of the operands from an index on
@@ -36,13 +37,13 @@ module _ (ts : List ℕ) (rule : Rule) (i : ℕ) (taken : length ts ≤ length (
 
   module _ (here : i < length ts) where
     split : conversions (drop i ts) (drop i (argumentsOf rule))
-        ≡ unlessSame (eqb (getD ts i 0) wanted)
-        (conversionLine (length ts - 1 - i) wanted)
+        ≡ choose (eqb (getD ts i 0) wanted)
         (conversions (drop (i + 1) ts) (drop (i + 1) (argumentsOf rule)))
+        (conversionLine (length ts - 1 - i) wanted ∷ conversions (drop (i + 1) ts) (drop (i + 1) (argumentsOf rule)))
     split =
         let n : length (drop (suc i) ts) ≡ length ts - 1 - i = length-drop (suc i) ts ∙ omega arith in
         ap₂ conversions (drop-cons ts i 0 here) (drop-cons (argumentsOf rule) i 255 (omega arith))
-        ∙ ap₂ (λ d j. unlessSame (eqb (getD ts i 0) wanted) (conversionLine d wanted) (conversions (drop j ts) (drop j (argumentsOf rule)))) n
+        ∙ ap₂ (λ d j. choose (eqb (getD ts i 0) wanted) (conversions (drop j ts) (drop j (argumentsOf rule))) (conversionLine d wanted ∷ conversions (drop j ts) (drop j (argumentsOf rule)))) n
         (sym (add-one i))
 
     same-left : getD ts i 0 ≡ wanted → leftFrom ts rule i ≡ leftFrom ts rule (i + 1)

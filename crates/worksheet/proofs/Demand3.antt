@@ -11,15 +11,16 @@ use native.Mathlib.Omega.{arith}
 use lib.ListN.{length}
 use borrow.Author.Tests.{le-leb}
 use Rattle.rules.specs.Signature.{Signature}
-use Rattle.overloads.specs.Taking.{OneLength}
-use Rattle.scalars.specs.declared.refusal.Refusal.{Refusal}
-use Rattle.expressions.specs.Tree.{Tree, WellFormed}
+use Rattle.overloads.specs.claims.Taking.{OneLength}
+use Rattle.expressions.specs.Tree.{Tree}
+use Rattle.expressions.specs.claims.Limits.{WellFormed}
 use Rattle.machine.specs.Line.{Line, encode}
-use Rattle.machine.specs.Machine.{ended, step, run}
+use Rattle.machine.specs.Machine.{ended, step, runBy}
 use Rattle.worksheet.specs.Typer.{Typed, typed, refused, typeOf}
-use Rattle.worksheet.specs.Answer.{withRoom, enoughBytes, answer}
-use Rattle.worksheet.specs.Meaning.{Gives, Stuck}
-use Rattle.worksheet.specs.Demand3.{Worksheet, Demand3, Theorem}
+use Rattle.worksheet.specs.Answer.{withRoom}
+use Rattle.worksheet.specs.claims.Room.{enoughBytes}
+use Rattle.worksheet.specs.claims.Meaning.{Gives, Stuck}
+use Rattle.worksheet.specs.claims.Demand3.{Worksheet, Demand3, Theorem}
 use Rattle.worksheet.proofs.Exact.{Means, means, gives-typed, fails-refused, fails-stuck, not-both}
 use Rattle.worksheet.proofs.Own.{own}
 use Rattle.worksheet.proofs.Room.{four-each, enough}
@@ -28,12 +29,12 @@ use Rattle.machine.proofs.LineBytes.{bytes-run}
 
 module _ (listingOf : ℕ → List Signature) (switch : Bool) (one : (f : ℕ) → OneLength (listingOf f))
     (functions : ℕ) (e : Tree) (fit : WellFormed functions e) where
-  meaning : (x : Typed) → typeOf listingOf switch e 0 ≡ x → Means listingOf switch e 0 x
+  meaning : (x : Typed ℕ) → typeOf listingOf switch e 0 ≡ x → Means listingOf switch e 0 x
   meaning x q = rw q at (means listingOf switch one e 0)
 
   given : (t : ℕ) (ls : List Line) → Gives listingOf switch e t ls → Worksheet listingOf e t ls
   given t ls g =
-      let r : run listingOf ls ≡ ended (t ∷ []) = runs listingOf switch functions e g (fit .known) (fit .few) in
+      let r : runBy (step listingOf) ls 0 [] ≡ ended (t ∷ []) = runs listingOf switch functions e g (fit .known) (fit .few) in
       record {
         itsOwn = own listingOf switch e g;
         linesRun = r;
@@ -42,33 +43,32 @@ module _ (listingOf : ℕ → List Signature) (switch : Bool) (one : (f : ℕ) �
         suffice = enough listingOf switch e (fit .few) g;
       }
 
-  either-one : (x : Typed) → typeOf listingOf switch e 0 ≡ x
+  either-one : (x : Typed ℕ) → typeOf listingOf switch e 0 ≡ x
       → ((t : ℕ) × (ls : List Line) × Gives listingOf switch e t ls) ⊎ Stuck listingOf switch e
   either-one (typed t ls) q = inl (t, ls, meaning (typed t ls) q)
-  either-one (refused why) q = inr (fails-stuck listingOf switch one e (meaning (refused why) q))
+  either-one (refused n p) q = inr (fails-stuck listingOf switch one e (meaning (refused n p) q))
 
-  refusal : Stuck listingOf switch e → (x : Typed) → typeOf listingOf switch e 0 ≡ x
-      → (why : Refusal) × (typeOf listingOf switch e 0 ≡ refused why)
+  refusal : Stuck listingOf switch e → (x : Typed ℕ) → typeOf listingOf switch e 0 ≡ x
+      → (n : ℕ) × (p : ℕ) × (typeOf listingOf switch e 0 ≡ refused n p)
   refusal s (typed t ls) q = absurd (not-both listingOf switch one e (meaning (typed t ls) q) s)
-  refusal s (refused why) q = (why, q)
+  refusal s (refused n p) q = (n, p, q)
 
-  roomy : (buffer : List ℕ) → enoughBytes ≤ length buffer → (x : Typed) → typeOf listingOf switch e 0 ≡ x → withRoom buffer x ≡ x
-  roomy buffer h (refused why) q = refl
+  roomy : (buffer : List ℕ) → enoughBytes ≤ length buffer → (x : Typed ℕ) → typeOf listingOf switch e 0 ≡ x → withRoom buffer x ≡ x
+  roomy buffer h (refused n p) q = refl
   roomy buffer h (typed t ls) q =
       let n : length (encode ls) ≤ enoughBytes = given t ls (meaning (typed t ls) q) .suffice in
       rw (le-leb (length (encode ls)) (length buffer) (omega arith))
 
   holds : Demand3 listingOf switch e
-  unfolding answer
   holds =
       record {
         accepted = λ t ls. (λ q. meaning (typed t ls) q, λ g. gives-typed listingOf switch one e g 0);
         worksheet = given;
         stuck = (
-          λ w. fails-stuck listingOf switch one e (meaning (refused (w .0)) (w .1)),
+          λ w. fails-stuck listingOf switch one e (meaning (refused (w .0) (w .1)) (w .2)),
           λ s. refusal s (typeOf listingOf switch e 0) refl,
         );
-        failed = λ why. (λ q. meaning (refused why) q, λ w. fails-refused listingOf switch one e w);
+        failed = λ n p. (λ q. meaning (refused n p) q, λ w. fails-refused listingOf switch one e w);
         eitherOne = either-one (typeOf listingOf switch e 0) refl;
         neverBoth = λ t ls g s. not-both listingOf switch one e g s;
         roomEnough = λ buffer h. roomy buffer h (typeOf listingOf switch e 0) refl;

@@ -4,26 +4,25 @@
 -- Assumes nothing.
 use mathlib.Core.Path.{_≡_, refl, ap, _∙_}
 use mathlib.Core.Bool.{Bool}
-use mathlib.Core.List.{List}
+use mathlib.Core.List.{List, _∷_, _++_}
 use Prim.Native.Nat.{ℕ, _<_}
 use native.Mathlib.Omega.{arith}
 use lib.ListN.{length}
 use Rattle.rules.specs.Signature.{Signature}
 use Rattle.overloads.specs.Choice.{Choice, chosen, wrongCount, noneAfter, noneConcrete, resolve}
-use Rattle.overloads.specs.Taking.{NoRule, Best, OneLength, Says}
+use Rattle.overloads.specs.claims.Taking.{NoRule, Best, OneLength, Says}
 use Rattle.overloads.proofs.Choices.{resolve-says}
 use Rattle.overloads.proofs.Demand2.{exactly}
-use Rattle.scalars.specs.declared.refusal.Refusal.{Refusal}
 use Rattle.expressions.specs.Tree.{Tree, Trees, leaf, call, none, more}
 use Rattle.machine.specs.Line.{Line}
 use Rattle.worksheet.specs.Places.{inside, behind, starts}
-use Rattle.worksheet.specs.Typer.{Typed, typed, refused, Operands, operands, refusedAmong, before, conclude, concludeCall, typeOf, typeAll}
-use Rattle.worksheet.specs.Meaning.{Gives, leafGives, callGives, GiveAll, noneGive, moreGive, Stuck, atArgument, atCall, StuckAmong, firstStuck, laterStuck}
-use Rattle.worksheet.specs.Fault.{Fault, wrongNumber, noneLeft, noneTakes, Fails, failsInside, failsHere, FailsAmong, failsFirst, failsLater}
+use Rattle.worksheet.specs.Typer.{Typed, typed, refused, andThen, conclude, typeOf, typeAll}
+use Rattle.worksheet.specs.claims.Meaning.{Gives, leafGives, callGives, GiveAll, noneGive, moreGive, Stuck, atArgument, atCall, StuckAmong, firstStuck, laterStuck}
+use Rattle.worksheet.specs.claims.Fault.{Fault, wrongNumber, noneLeft, noneTakes, Fails, failsInside, failsHere, FailsAmong, failsFirst, failsLater}
 
 -- where a call is at fault, no rule takes its operands
 fault-no-rule : (switch : Bool) (rules : List Signature) (ts : List ℕ) (at : ℕ) (places : List ℕ) → OneLength rules
-    → {why : Refusal} → Fault switch rules ts at places why → NoRule switch rules ts
+    → {n p : ℕ} → Fault switch rules ts at places n p → NoRule switch rules ts
 unfolding NoRule OneLength
 fault-no-rule switch rules ts at places one (wrongNumber n) = λ i r h t. n (t .many ∙ one i r h)
 fault-no-rule switch rules ts at places one (noneLeft {k} e) = λ i r h t.
@@ -32,21 +31,29 @@ fault-no-rule switch rules ts at places one (noneLeft {k} e) = λ i r h t.
     e .none (record { index = i; rule = r; there = h; long = omega arith; reached = λ j le. t .reached j (omega arith) })
 fault-no-rule switch rules ts at places one (noneTakes d) = d .none
 
+-- an operand and its lines in front of the others
+abbrev pub before : Typed ℕ → Typed (List ℕ) → Typed (List ℕ)
+before x y = andThen x (λ t ls. andThen y (λ ts ls′. typed (t ∷ ts) (ls ++ ls′)))
+
 module _ (listingOf : ℕ → List Signature) (switch : Bool) where
+  -- what is concluded of a call's operands
+  abbrev pub concludeCall : ℕ → ℕ → List ℕ → Typed (List ℕ) → Typed ℕ
+  concludeCall f at places x = andThen x (λ ts ls. conclude f at places ts ls (resolve switch (listingOf f) ts))
+
   -- what an answer means, for an expression at an offset
-  abbrev pub Means : Tree → ℕ → Typed → Type 0
+  abbrev pub Means : Tree → ℕ → Typed ℕ → Type 0
   Means e at (typed t ls) = Gives listingOf switch e t ls
-  Means e at (refused why) = Fails listingOf switch e at why
+  Means e at (refused n p) = Fails listingOf switch e at n p
 
-  abbrev MeansAll : Trees → ℕ → Operands → Type 0
-  MeansAll es at (operands ts ls) = GiveAll listingOf switch es ts ls
-  MeansAll es at (refusedAmong why) = FailsAmong listingOf switch es at why
+  abbrev MeansAll : Trees → ℕ → Typed (List ℕ) → Type 0
+  MeansAll es at (typed ts ls) = GiveAll listingOf switch es ts ls
+  MeansAll es at (refused n p) = FailsAmong listingOf switch es at n p
 
-  before-means : (e : Tree) (es : Trees) (at : ℕ) (x : Typed) (y : Operands) → Means e at x → MeansAll es (behind e at) y
+  before-means : (e : Tree) (es : Trees) (at : ℕ) (x : Typed ℕ) (y : Typed (List ℕ)) → Means e at x → MeansAll es (behind e at) y
       → MeansAll (more e es) at (before x y)
-  before-means e es at (refused why) y g h = failsFirst g
-  before-means e es at (typed t ls) (refusedAmong why) g h = failsLater g h
-  before-means e es at (typed t ls) (operands ts ls′) g h = moreGive g h
+  before-means e es at (refused n p) y g h = failsFirst g
+  before-means e es at (typed t ls) (refused n p) g h = failsLater g h
+  before-means e es at (typed t ls) (typed ts ls′) g h = moreGive g h
 
   conclude-means : (f at : ℕ) (es : Trees) (ts : List ℕ) (ls : List Line) → GiveAll listingOf switch es ts ls → (c : Choice)
       → Says switch (listingOf f) ts c → Means (call f es) at (conclude f at (starts es (inside at)) ts ls c)
@@ -61,17 +68,17 @@ module _ (listingOf : ℕ → List Signature) (switch : Bool) where
         → conclude f at places ts ls (resolve switch (listingOf f) ts) ≡ conclude f at places ts ls c
     concluded c s = ap (conclude f at places ts ls) (exactly switch (listingOf f) ts one c .1 s)
 
-    conclude-fault : {why : Refusal} → Fault switch (listingOf f) ts at places why
-        → conclude f at places ts ls (resolve switch (listingOf f) ts) ≡ refused why
+    conclude-fault : {n p : ℕ} → Fault switch (listingOf f) ts at places n p
+        → conclude f at places ts ls (resolve switch (listingOf f) ts) ≡ refused n p
     conclude-fault (wrongNumber s) = concluded wrongCount s
     conclude-fault (noneLeft {k} s) = concluded (noneAfter k) s
     conclude-fault (noneTakes s) = concluded noneConcrete s
 
   module _ (one : (f : ℕ) → OneLength (listingOf f)) where
-    call-means : (f at : ℕ) (es : Trees) (x : Operands) → MeansAll es (inside at) x
-        → Means (call f es) at (concludeCall listingOf switch f at (starts es (inside at)) x)
-    call-means f at es (refusedAmong why) h = failsInside h
-    call-means f at es (operands ts ls) g =
+    call-means : (f at : ℕ) (es : Trees) (x : Typed (List ℕ)) → MeansAll es (inside at) x
+        → Means (call f es) at (concludeCall f at (starts es (inside at)) x)
+    call-means f at es (refused n p) h = failsInside h
+    call-means f at es (typed ts ls) g =
         conclude-means f at es ts ls g (resolve switch (listingOf f) ts) (resolve-says switch (listingOf f) ts (one f))
 
     -- from the answer to its meaning
@@ -100,33 +107,33 @@ module _ (listingOf : ℕ → List Signature) (switch : Bool) where
           (concluded f at (starts es (inside at)) ts ls (one f) (chosen i r) b)
 
       give-operands : (es : Trees) {ts : List ℕ} {ls : List Line} → GiveAll listingOf switch es ts ls
-          → (at : ℕ) → typeAll listingOf switch es at ≡ operands ts ls
+          → (at : ℕ) → typeAll listingOf switch es at ≡ typed ts ls
       give-operands none noneGive at = refl
       give-operands (more e es) (moreGive g h) at = rw (gives-typed e g at, give-operands es h (behind e at))
 
     mutual
       unfolding typeOf
 
-      pub fails-refused : (e : Tree) {at : ℕ} {why : Refusal} → Fails listingOf switch e at why
-          → typeOf listingOf switch e at ≡ refused why
+      pub fails-refused : (e : Tree) {at : ℕ} {n p : ℕ} → Fails listingOf switch e at n p
+          → typeOf listingOf switch e at ≡ refused n p
       fails-refused (call f es) (failsInside h) = rw (fail-among es h)
       fails-refused (call f es) (failsHere {at = at} {ts = ts} {ls = ls} g w) =
           rw (give-operands es g (inside at))
           (conclude-fault f at (starts es (inside at)) ts ls (one f) w)
 
-      fail-among : (es : Trees) {at : ℕ} {why : Refusal} → FailsAmong listingOf switch es at why
-          → typeAll listingOf switch es at ≡ refusedAmong why
+      fail-among : (es : Trees) {at : ℕ} {n p : ℕ} → FailsAmong listingOf switch es at n p
+          → typeAll listingOf switch es at ≡ refused n p
       fail-among (more e es) (failsFirst h) = rw (fails-refused e h)
       fail-among (more e es) (failsLater {at = at} g h) = rw (gives-typed e g at, fail-among es h)
 
     -- what fails is stuck, and what is stuck gives nothing
     mutual
-      pub fails-stuck : (e : Tree) {at : ℕ} {why : Refusal} → Fails listingOf switch e at why → Stuck listingOf switch e
+      pub fails-stuck : (e : Tree) {at : ℕ} {n p : ℕ} → Fails listingOf switch e at n p → Stuck listingOf switch e
       fails-stuck (call f es) (failsInside h) = atArgument (fails-stuck-among es h)
       fails-stuck (call f es) (failsHere {at = at} {ts = ts} g w) =
           atCall g (fault-no-rule switch (listingOf f) ts at (starts es (inside at)) (one f) w)
 
-      fails-stuck-among : (es : Trees) {at : ℕ} {why : Refusal} → FailsAmong listingOf switch es at why → StuckAmong listingOf switch es
+      fails-stuck-among : (es : Trees) {at : ℕ} {n p : ℕ} → FailsAmong listingOf switch es at n p → StuckAmong listingOf switch es
       fails-stuck-among (more e es) (failsFirst h) = firstStuck (fails-stuck e h)
       fails-stuck-among (more e es) (failsLater g h) = laterStuck (fails-stuck-among es h)
 

@@ -6,10 +6,11 @@ use mathlib.Core.List.{List, [], _∷_, _++_}
 use Prim.Native.Nat.{ℕ, suc}
 use lib.Dec.{eqb}
 use lib.ListN.{length}
+use Rattle.scalars.specs.Mask.{choose}
 use Rattle.rules.specs.Signature.{Signature}
 use Rattle.expressions.specs.Tree.{Tree, Trees, leaf, call, none, more, count}
-use Rattle.machine.specs.Line.{Line, leafLine, conversionLine, callLine, unlessSame, conversions, callLines}
-use Rattle.worksheet.specs.Meaning.{Node, leafNode, callNode, order, orderAll, ownOf, Gives, leafGives, callGives, GiveAll, noneGive, moreGive}
+use Rattle.machine.specs.Line.{Line, leafLine, conversionLine, callLine, conversions, callLines}
+use Rattle.worksheet.specs.claims.Meaning.{Node, leafNode, callNode, order, orderAll, ownOf, Gives, leafGives, callGives, GiveAll, noneGive, moreGive}
 
 own-append : (v w : List Line) → ownOf (v ++ w) ≡ ownOf v ++ ownOf w
 unfolding ownOf
@@ -24,7 +25,7 @@ own-conversions [] az = refl
 own-conversions (t ∷ ts) [] = refl
 own-conversions (t ∷ ts) (a ∷ az) = go (own-conversions ts az) (eqb t a)
   where
-    go : ownOf (conversions ts az) ≡ [] → (b : Bool) → ownOf (unlessSame b (conversionLine (length ts) a) (conversions ts az)) ≡ []
+    go : ownOf (conversions ts az) ≡ [] → (b : Bool) → ownOf (choose b (conversions ts az) (conversionLine (length ts) a ∷ conversions ts az)) ≡ []
     go ih true = ih
     go ih false = ih
 

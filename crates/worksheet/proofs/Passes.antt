@@ -10,30 +10,34 @@ use lib.ListN.{length, getD, drop, length-append}
 use Rattle.overloads.specs.Choice.{Choice, chosen, wrongCount, noneAfter, noneConcrete, resolve}
 use Rattle.functions.specs.Functions.{functionCount, listingOf}
 use Rattle.scalars.specs.declared.refusal.Refusal.{Refusal}
+use Rattle.scalars.specs.Paper.{refusal}
 use Rattle.worksheet.specs.declared.sheet.Sheet.{Sheet}
 use Rattle.worksheet.specs.declared.stack.Stack.{Stack}
 use Rattle.worksheet.specs.declared.progress.Progress.{Progress}
 use Rattle.worksheet.specs.declared.progress.Verdict.{Verdict}
 use Rattle.worksheet.specs.declared.progress.Verdict.the-variants.{Clean, Wrong}
-use Rattle.expressions.specs.Tree.{Tree, Trees, leaf, call, none, more, count, bytesOf, bytesOfAll, nodes, nodesAll, Known, KnownAll}
+use Rattle.expressions.specs.Tree.{Tree, Trees, leaf, call, none, more, count, bytesOf, bytesOfAll, nodes, nodesAll}
+use Rattle.expressions.specs.claims.Limits.{Known, KnownAll}
 use Rattle.machine.specs.Line.{Line, leafMark, callLines, encode}
 use Rattle.machine.specs.Machine.{mostOperands}
-use Rattle.worksheet.specs.Answer.{enoughBytes}
+use Rattle.worksheet.specs.claims.Room.{enoughBytes}
 use Rattle.worksheet.specs.Places.{inside, behind, starts}
-use Rattle.worksheet.specs.Typer.{Typed, typed, refused, Operands, operands, refusedAmong, before, conclude, concludeCall, typeOf, typeAll}
-use Rattle.worksheet.specs.Sheet.{Wrote}
-use Rattle.worksheet.specs.Stack.{typesOn, startsOn, Counted, Pushed}
-use Rattle.worksheet.specs.SecondPass.{Went, CallThere, CallClaim, CallTyped, NodeThere, NodeClaim, NodeTyped, ArgsThere, ArgsClaim, ArgsTyped}
+use Rattle.worksheet.specs.Typer.{Typed, typed, refused, conclude, typeOf, typeAll}
+use Rattle.worksheet.specs.private.Sheet.{Wrote}
+use Rattle.worksheet.specs.private.Stack.{typesOn, startsOn, Counted, Pushed}
+use Rattle.worksheet.specs.private.SecondPass.{foundPaper, Went, CallThere, CallClaim, CallTyped, NodeThere, NodeClaim, NodeTyped, ArgsThere, ArgsClaim, ArgsTyped}
+use Rattle.expressions.proofs.Answers.{accepted-refused}
 use Rattle.expressions.proofs.Bytes.{after, leaf-there, call-there, bytes-least}
 use Rattle.machine.proofs.LineBytes.{encode-append}
+use Rattle.worksheet.proofs.Exact.{before, concludeCall}
 use Rattle.worksheet.proofs.Room.{four-each}
 use Rattle.worksheet.proofs.Written.{wrote-nothing, wrote-both, wrote-as}
 use Rattle.worksheet.proofs.Pushes.{pushed-nothing, pushed-both, pushed-full}
 use Rattle.worksheet.proofs.Typings.{Sized, sized, SizedAll, sized-all, starts-many, nodes-least, count-nodes}
 
 -- a verdict cannot be both
-clash : {A : Type 0} {v : Verdict} {why : Refusal} → v ≡ Clean → v ≡ Wrong why → A
-clash p q = let z : _≡_ {A = ℕ} 0 1 = cc in absurd (omega arith)
+pub clash : {A : Type 0} {v : Verdict} {n p : ℕ} → v ≡ Clean → foundPaper v ≡ refusal n p [] → A
+clash c w = accepted-refused (sym (ap foundPaper c) ∙ w)
 
 abbrev clean : ℕ → Stack → Sheet → Progress
 clean at s h = record { verdict = Clean; at = at; stack = s; sheet = h }
@@ -101,10 +105,10 @@ module _ (b : List ℕ) (at : ℕ) (s : Stack) (h : Sheet) where
           let there = call-there b at f es tail t in
           go (typeAll listingOf switch es (inside at)) (inner es tail (sym (there .number)) (there .arguments) (k .1))
         where
-          go : (x : Operands) → ArgsClaim es (inside at) s h i x
+          go : (x : Typed (List ℕ)) → ArgsClaim es (inside at) s h i x
               → NodeClaim (call f es) at s h i (concludeCall listingOf switch f at (starts es (inside at)) x)
-          go (refusedAmong why′) c = c
-          go (operands ts ls) c = clash (c .verdict-is) w
+          go (refused k p) c = c
+          go (typed ts ls) c = clash (c .verdict-is) (ap foundPaper w)
 
       module _ (w : i .verdict ≡ Clean) where
         -- the operands are on the stack, with room for the call's lines
@@ -114,9 +118,9 @@ module _ (b : List ℕ) (at : ℕ) (s : Stack) (h : Sheet) where
           where
             among : (f : ℕ) (es : Trees) → getD b (at + 2) 0 ≡ count es → s .top + nodes (call f es) ≤ mostOperands
                 → h .len + 8 * nodes (call f es) ≤ enoughBytes + 4
-                → (x : Operands) → ArgsClaim es (inside at) s h i x → SizedAll es x → CallThere (getD b (at + 2) 0) (i .stack) (i .sheet)
-            among f es m u v (refusedAmong why) c z = clash w c
-            among f es m u v (operands ts ls) c z =
+                → (x : Typed (List ℕ)) → ArgsClaim es (inside at) s h i x → SizedAll es x → CallThere (getD b (at + 2) 0) (i .stack) (i .sheet)
+            among f es m u v (refused k p) c z = clash w c
+            among f es m u v (typed ts ls) c z =
                 let top = c .pushed .top-is in
                 let len = c .wrote .len-is in
                 let four = four-each ls in
@@ -160,10 +164,10 @@ module _ (b : List ℕ) (at : ℕ) (s : Stack) (h : Sheet) where
             (inner es tail (sym (there .number)) (there .arguments) (k .1)) (sized-all switch es (inside at) (k .1))
           where
             go : getD b (at + 1) 0 ≡ f → getD b (at + 2) 0 ≡ count es
-                → (x : Operands) → ArgsClaim es (inside at) s h i x → SizedAll es x
+                → (x : Typed (List ℕ)) → ArgsClaim es (inside at) s h i x → SizedAll es x
                 → NodeClaim (call f es) at s h r (concludeCall listingOf switch f at (starts es (inside at)) x)
-            go fe ne (refusedAmong why) c z = clash w c
-            go fe ne (operands ts ls) c z =
+            go fe ne (refused k p) c z = clash w c
+            go fe ne (typed ts ls) c z =
                 let full = n .full in
                 let top = c .pushed .top-is in
                 let many = z .many in
@@ -208,9 +212,9 @@ module _ (b : List ℕ) (at left : ℕ) (switch : Bool) (s : Stack) (h : Sheet) 
           go (typeOf listingOf switch e at) (typeAll listingOf switch es (behind e at))
           (one e (bytesOfAll es ++ tail) (t ∙ append-assoc (bytesOf e) (bytesOfAll es) tail) (k .0))
         where
-          go : (x : Typed) (y : Operands) → NodeClaim e at s h i x → ArgsClaim (more e es) at s h i (before x y)
-          go (refused why′) y c = c
-          go (typed u ls) y c = clash (c .verdict-is) w
+          go : (x : Typed ℕ) (y : Typed (List ℕ)) → NodeClaim e at s h i x → ArgsClaim (more e es) at s h i (before x y)
+          go (refused k p) y c = c
+          go (typed u ls) y c = clash (c .verdict-is) (ap foundPaper w)
 
       module _ (w : i .verdict ≡ Clean) where
         pub next-there : ArgsThere b at left s h
@@ -221,9 +225,9 @@ module _ (b : List ℕ) (at left : ℕ) (switch : Bool) (s : Stack) (h : Sheet) 
             behind-it : (e : Tree) (es : Trees) → count (more e es) ≡ left → drop at b ≡ bytesOf e ++ (bytesOfAll es ++ n .tail)
                 → KnownAll functionCount es → s .top + nodesAll (more e es) < mostOperands
                 → h .len + 8 * nodesAll (more e es) + 4 ≤ enoughBytes
-                → (x : Typed) → NodeClaim e at s h i x → Sized e x
+                → (x : Typed ℕ) → NodeClaim e at s h i x → Sized e x
                 → ArgsThere b (i .at) (left - 1) (i .stack) (i .sheet) × (at < i .at) × (at < length b)
-            behind-it e es m t k u v (refused why) c z = clash w c
+            behind-it e es m t k u v (refused j p) c z = clash w c
             behind-it e es m t k u v (typed y ls) c z =
                 let top = c .pushed .top-is in
                 let len = c .wrote .len-is in
@@ -258,10 +262,10 @@ module _ (b : List ℕ) (at left : ℕ) (switch : Bool) (s : Stack) (h : Sheet) 
 
         -- one argument and those behind it
         both-went : (e : Tree) (es : Trees) (t : ℕ) (ls : List Line) (r : Progress) → Went (behind e at) (t ∷ []) (at ∷ []) ls s h i
-            → (y : Operands) → ArgsClaim es (behind e at) (i .stack) (i .sheet) r y → ArgsClaim (more e es) at s h r (before (typed t ls) y)
+            → (y : Typed (List ℕ)) → ArgsClaim es (behind e at) (i .stack) (i .sheet) r y → ArgsClaim (more e es) at s h r (before (typed t ls) y)
         unfolding bytesOf starts
-        both-went e es t ls r g (refusedAmong why) c = c
-        both-went e es t ls r g (operands ts ls′) c = record {
+        both-went e es t ls r g (refused k p) c = c
+        both-went e es t ls r g (typed ts ls′) c = record {
           verdict-is = c .verdict-is;
           at-is = omega (arith, c .at-is, length-append (bytesOf e) (bytesOfAll es));
           pushed = pushed-both (g .pushed) (c .pushed);
@@ -275,9 +279,9 @@ module _ (b : List ℕ) (at left : ℕ) (switch : Bool) (s : Stack) (h : Sheet) 
             let t′ : drop at b ≡ bytesOf e ++ (bytesOfAll es ++ tail) = t ∙ append-assoc (bytesOf e) (bytesOfAll es) tail in
             go t′ (typeOf listingOf switch e at) (one e (bytesOfAll es ++ tail) t′ (k .0))
           where
-            go : drop at b ≡ bytesOf e ++ (bytesOfAll es ++ tail) → (x : Typed) → NodeClaim e at s h i x
+            go : drop at b ≡ bytesOf e ++ (bytesOfAll es ++ tail) → (x : Typed ℕ) → NodeClaim e at s h i x
                 → ArgsClaim (more e es) at s h r (before x (typeAll listingOf switch es (behind e at)))
-            go t′ (refused why) c = clash w c
+            go t′ (refused k p) c = clash w c
             go t′ (typed u ls) c =
                 both-went e es u ls r c (typeAll listingOf switch es (behind e at))
                 (subst (λ j. ArgsClaim es j (i .stack) (i .sheet) r (typeAll listingOf switch es j)) (c .at-is)

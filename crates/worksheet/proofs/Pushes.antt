@@ -6,7 +6,7 @@ use Prim.Native.Nat.{ℕ}
 use native.Mathlib.Omega.{arith}
 use lib.ListN.{length, take, length-append}
 use Rattle.worksheet.specs.declared.stack.Stack.{Stack}
-use Rattle.worksheet.specs.Stack.{typesOn, startsOn, Counted, Pushed}
+use Rattle.worksheet.specs.private.Stack.{typesOn, startsOn, Counted, Pushed}
 
 pub pushed-nothing : (s : Stack) → Pushed s [] [] s
 pushed-nothing s = record { types-are = sym (append-nil (typesOn s)); starts-are = sym (append-nil (startsOn s)); top-is = omega arith }

@@ -2,7 +2,7 @@
 use mathlib.Core.Path.{_≡_, refl}
 use Rattle.scalars.specs.Mask.{bits}
 use Rattle.scalars.specs.Domain.{converts, isAbstract, firstUnknown}
-use Rattle.domain.specs.Conversion.{combination, agree, consensusWith, consensusWithout}
+use Rattle.domain.specs.Conversion.{combination, agree, consensusOf}
 use Rattle.domain.specs.TypeCode.{predeclaredCode}
 use Rattle.rules.specs.Signature.{reaches}
 use Rattle.overloads.specs.Choice.{narrow, resolve}
@@ -15,10 +15,9 @@ use Rattle.overloads.specs.Call.{callOf, survivorsOf, survivorsOfCall}
 use Rattle.expressions.specs.Reading.{argsAt, leafAt, callAt, taggedAt, nodeAt, expressionOf}
 use Rattle.machine.specs.Line.{encode}
 use Rattle.worksheet.specs.Typer.{typeOf, typeAll}
-use Rattle.worksheet.specs.Answer.{answer}
 use Rattle.worksheet.specs.Typing.{typingOf}
-use Rattle.worksheet.specs.Readings.{asked, paper}
+use Rattle.worksheet.specs.claims.Readings.{asked, paper}
 
 pub readings : asked ≡ paper
-unfolding asked paper bits converts isAbstract firstUnknown combination agree consensusWith consensusWithout predeclaredCode reaches narrow resolve ruleOf codesOf concludedOf regularRules floatScalars concreteFloatScalars concreteIntScalars vectorSizes vector matrix scalarOrVecn functionSets functionSetOf listedRules listingOf callOf survivorsOf survivorsOfCall argsAt leafAt callAt taggedAt nodeAt expressionOf typeOf typeAll encode answer typingOf
+unfolding asked paper bits converts isAbstract firstUnknown combination agree consensusOf predeclaredCode reaches narrow resolve ruleOf codesOf concludedOf regularRules floatScalars concreteFloatScalars concreteIntScalars vectorSizes vector matrix scalarOrVecn functionSets functionSetOf listedRules listingOf callOf survivorsOf survivorsOfCall argsAt leafAt callAt taggedAt nodeAt expressionOf typeOf typeAll encode typingOf
 readings = refl

@@ -8,11 +8,12 @@ use Prim.Native.Nat.{ℕ, suc, _+_, _*_, _≤_}
 use native.Mathlib.Omega.{arith}
 use lib.Dec.{eqb}
 use lib.ListN.{length, length-append}
+use Rattle.scalars.specs.Mask.{choose}
 use Rattle.rules.specs.Signature.{Signature}
 use Rattle.expressions.specs.Tree.{Tree, Trees, leaf, call, none, more, nodes, nodesAll, mostNodes}
-use Rattle.machine.specs.Line.{Line, leafLine, conversionLine, callLine, unlessSame, conversions, encode}
-use Rattle.worksheet.specs.Answer.{enoughBytes}
-use Rattle.worksheet.specs.Meaning.{Gives, leafGives, callGives, GiveAll, noneGive, moreGive}
+use Rattle.machine.specs.Line.{Line, leafLine, conversionLine, callLine, conversions, encode}
+use Rattle.worksheet.specs.claims.Room.{enoughBytes}
+use Rattle.worksheet.specs.claims.Meaning.{Gives, leafGives, callGives, GiveAll, noneGive, moreGive}
 
 -- the bytes needed
 pub four-each : (ls : List Line) → length (encode ls) ≡ 4 * length ls
@@ -28,7 +29,7 @@ few-conversions (t ∷ ts) [] = omega arith
 few-conversions (t ∷ ts) (a ∷ az) = go (few-conversions ts az) (eqb t a)
   where
     go : length (conversions ts az) ≤ length ts
-        → (b : Bool) → length (unlessSame b (conversionLine (length ts) a) (conversions ts az)) ≤ suc (length ts)
+        → (b : Bool) → length (choose b (conversions ts az) (conversionLine (length ts) a ∷ conversions ts az)) ≤ suc (length ts)
     go ih true = omega arith
     go ih false = omega arith
 

@@ -1,21 +1,20 @@
 -- The answer that the root's progress makes, for each way through `answer`.
 -- Assumes nothing.
 use mathlib.Core.Path.{_≡_, refl, ap}
-use mathlib.Core.List.{List}
+use mathlib.Core.List.{List, [], _∷_}
 use Prim.Native.Nat.{ℕ}
 use lib.ListN.{length, getD}
 use Rattle.scalars.specs.declared.refusal.Refusal.{Refusal}
-use Rattle.scalars.specs.declared.refusal.Refusal.the-variants.{NoRoom}
+use Rattle.scalars.specs.Paper.{accepted, refusal, refused}
 use Rattle.worksheet.specs.declared.sheet.Room.{Room}
 use Rattle.worksheet.specs.declared.sheet.Room.the-variants.{Fits, Short}
 use Rattle.worksheet.specs.declared.progress.Progress.{Progress}
 use Rattle.worksheet.specs.declared.progress.Verdict.the-variants.{Clean, Wrong}
-use Rattle.worksheet.specs.declared.typer.TypeAnswer.the-variants as answers
-use Rattle.worksheet.specs.Sheet.{written, roomFor, placed}
-use Rattle.worksheet.specs.SecondPass.{roomAnswer, rootAnswer, rootBuffer}
+use Rattle.worksheet.specs.private.Sheet.{written, roomFor, placed}
+use Rattle.worksheet.specs.private.SecondPass.{roomAnswer, rootAnswer, rootBuffer}
 
 module _ (r : Progress) (d : List ℕ) where
-  pub root-wrong : (why : Refusal) → r .verdict ≡ Wrong why → (answers.Refused why ≡ rootAnswer r (length d)) × (d ≡ rootBuffer r d)
+  pub root-wrong : (why : Refusal) → r .verdict ≡ Wrong why → (refused why (255 ∷ []) ≡ rootAnswer r (length d)) × (d ≡ rootBuffer r d)
   root-wrong why e = rw e (refl, refl)
 
   module _ (clean : r .verdict ≡ Clean) (room : Room) (d′ : List ℕ) (e : room ≡ roomFor (r .sheet .len) (length d))
@@ -24,8 +23,8 @@ module _ (r : Progress) (d : List ℕ) where
     by-room = rw clean (ap (roomAnswer (getD (r .stack .types) 0 0)) e, copied)
 
     pub root-short : (needed : ℕ) → room ≡ Short needed
-        → (answers.Refused (NoRoom needed) ≡ rootAnswer r (length d)) × (d′ ≡ rootBuffer r d)
+        → (refusal 10 needed (255 ∷ []) ≡ rootAnswer r (length d)) × (d′ ≡ rootBuffer r d)
     root-short needed k = rw k at by-room
 
-    pub root-typed : room ≡ Fits → (answers.Typed (getD (r .stack .types) 0 0) ≡ rootAnswer r (length d)) × (d′ ≡ rootBuffer r d)
+    pub root-typed : room ≡ Fits → (accepted (getD (r .stack .types) 0 0 ∷ []) ≡ rootAnswer r (length d)) × (d′ ≡ rootBuffer r d)
     root-typed k = rw k at by-room

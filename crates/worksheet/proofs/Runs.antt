@@ -10,12 +10,14 @@ use lib.Dec.{eqb}
 use lib.ListN.{length, getD, length-append, length-reverse, length-reverseAux, getElem?}
 use lib.Seq.{take-at, drop-at, getD-at, set-at}
 use borrow.Author.Tests.{eqb-true, eq-eqb, lt-ltb, le-leb}
+use Rattle.scalars.specs.Mask.{choose}
 use Rattle.rules.specs.Signature.{Signature, reaches}
-use Rattle.overloads.specs.Taking.{Takes}
-use Rattle.expressions.specs.Tree.{Tree, Trees, leaf, call, none, more, nodes, nodesAll, lastLeaf, Known, KnownAll}
-use Rattle.machine.specs.Line.{Line, leafLine, conversionLine, callLine, unlessSame, conversions, callLines}
-use Rattle.machine.specs.Machine.{ended, mostOperands, convertAt, apply, runBy, step, run}
-use Rattle.worksheet.specs.Meaning.{Gives, leafGives, callGives, GiveAll, noneGive, moreGive}
+use Rattle.overloads.specs.claims.Taking.{Takes}
+use Rattle.expressions.specs.Tree.{Tree, Trees, leaf, call, none, more, nodes, nodesAll, lastLeaf}
+use Rattle.expressions.specs.claims.Limits.{Known, KnownAll}
+use Rattle.machine.specs.Line.{Line, leafLine, conversionLine, callLine, conversions, callLines}
+use Rattle.machine.specs.Machine.{ended, mostOperands, convertAt, apply, runBy, step}
+use Rattle.worksheet.specs.claims.Meaning.{Gives, leafGives, callGives, GiveAll, noneGive, moreGive}
 use Rattle.machine.proofs.Likeness.{same-same}
 
 -- operands stand on the stack in reverse, the last on top
@@ -77,7 +79,7 @@ module _ (listingOf : ℕ → List Signature) where
       go (leads-conversions ts az (a ∷ s) (omega arith) (λ k lt. h (suc k) (omega arith))) (eqb t a) refl
     where
       go : Leads listingOf (conversions ts az) (reverseAux ts (a ∷ s)) (reverseAux az (a ∷ s)) → (b : Bool) → eqb t a ≡ b
-          → Leads listingOf (unlessSame b (conversionLine (length ts) a) (conversions ts az)) (reverseAux ts (t ∷ s)) (reverseAux az (a ∷ s))
+          → Leads listingOf (choose b (conversions ts az) (conversionLine (length ts) a ∷ conversions ts az)) (reverseAux ts (t ∷ s)) (reverseAux az (a ∷ s))
       go ih true e = rw (eqb-true t a e) ih
       go ih false e = leads-both (leads-one (conversionLine (length ts) a) (convert-under ts s t a e (h 0 (omega arith)))) ih
 
@@ -110,5 +112,5 @@ module _ (listingOf : ℕ → List Signature) where
           leads-both (leads e g (k .0) s (omega arith)) (leads-all es g′ (k .1) (t ∷ s) (omega arith))
 
     pub runs : (e : Tree) {t : ℕ} {ls : List Line} → Gives listingOf switch e t ls → Known functions e → nodes e ≤ mostOperands
-        → run listingOf ls ≡ ended (t ∷ [])
+        → runBy (step listingOf) ls 0 [] ≡ ended (t ∷ [])
     runs e g k h = rw append-nil at (leads e g k [] (omega arith) .on [] 0)

@@ -11,29 +11,31 @@ use lib.ListN.{length, length-append}
 use Rattle.scalars.specs.Domain.{firstUnknown}
 use Rattle.overloads.specs.Choice.{Choice, chosen, wrongCount, noneAfter, noneConcrete, resolve}
 use Rattle.functions.specs.Functions.{functionCount, listingOf}
-use Rattle.expressions.specs.Tree.{Tree, Trees, leaf, call, none, more, count, nodes, nodesAll, Known, KnownAll}
+use Rattle.expressions.specs.Tree.{Tree, Trees, leaf, call, none, more, count, nodes, nodesAll}
+use Rattle.expressions.specs.claims.Limits.{Known, KnownAll}
 use Rattle.machine.specs.Line.{Line, callLine, conversions}
 use Rattle.worksheet.specs.Places.{inside, behind, starts}
-use Rattle.worksheet.specs.Typer.{Typed, typed, refused, Operands, operands, refusedAmong, before, conclude, concludeCall, typeOf, typeAll}
+use Rattle.worksheet.specs.Typer.{Typed, typed, refused, conclude, typeOf, typeAll}
 use Rattle.worksheet.proofs.Room.{few-conversions}
 use Rattle.worksheet.proofs.CallFacts.{Chose, chose}
+use Rattle.worksheet.proofs.Exact.{before, concludeCall}
 
 pub record Small (e : Tree) (t : ℕ) (ls : List Line) : Type 0 where
   pub few : length ls + 1 ≤ 2 * nodes e
   pub known : t ≤ 180
 
-abbrev pub Sized : Tree → Typed → Type 0
+abbrev pub Sized : Tree → Typed ℕ → Type 0
 Sized e (typed t ls) = Small e t ls
-Sized e (refused why) = Unit
+Sized e (refused n p) = Unit
 
 pub record SmallAll (es : Trees) (ts : List ℕ) (ls : List Line) : Type 0 where
   pub many : length ts ≡ count es
   pub few : length ls + length ts ≤ 2 * nodesAll es
   pub known : length ts ≤ firstUnknown ts
 
-abbrev pub SizedAll : Trees → Operands → Type 0
-SizedAll es (operands ts ls) = SmallAll es ts ls
-SizedAll es (refusedAmong why) = Unit
+abbrev pub SizedAll : Trees → Typed (List ℕ) → Type 0
+SizedAll es (typed ts ls) = SmallAll es ts ls
+SizedAll es (refused n p) = Unit
 
 conclude-sized : (f at : ℕ) (places : List ℕ) (es : Trees) (ts : List ℕ) (ls : List Line) → SmallAll es ts ls
     → (c : Choice) → Chose ts c → Sized (call f es) (conclude f at places ts ls c)
@@ -48,17 +50,17 @@ conclude-sized f at places es ts ls k (noneAfter j) h = tt
 conclude-sized f at places es ts ls k noneConcrete h = tt
 
 module _ (switch : Bool) where
-  call-sized : (f at : ℕ) (places : List ℕ) (es : Trees) (x : Operands) → SizedAll es x
+  call-sized : (f at : ℕ) (places : List ℕ) (es : Trees) (x : Typed (List ℕ)) → SizedAll es x
       → Sized (call f es) (concludeCall listingOf switch f at places x)
-  call-sized f at places es (refusedAmong why) k = tt
-  call-sized f at places es (operands ts ls) k =
+  call-sized f at places es (refused n p) k = tt
+  call-sized f at places es (typed ts ls) k =
       conclude-sized f at places es ts ls k (resolve switch (listingOf f) ts) (chose switch f ts)
 
-  before-sized : (e : Tree) (es : Trees) (x : Typed) (y : Operands) → Sized e x → SizedAll es y → SizedAll (more e es) (before x y)
+  before-sized : (e : Tree) (es : Trees) (x : Typed ℕ) (y : Typed (List ℕ)) → Sized e x → SizedAll es y → SizedAll (more e es) (before x y)
   unfolding nodes count firstUnknown
-  before-sized e es (refused why) y k h = tt
-  before-sized e es (typed t ls) (refusedAmong why) k h = tt
-  before-sized e es (typed t ls) (operands ts ls′) k h = record {
+  before-sized e es (refused n p) y k h = tt
+  before-sized e es (typed t ls) (refused n p) k h = tt
+  before-sized e es (typed t ls) (typed ts ls′) k h = record {
     many = ap suc (h .many);
     few = omega (arith, length-append ls ls′, k .few, h .few);
     known = simp (le-leb t 180 (k .known)) (omega (arith, h .known));

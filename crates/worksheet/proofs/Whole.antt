@@ -10,43 +10,41 @@ use borrow.Author.Tests.{lt-ltb, le-ltb, lt-leb, le-leb}
 use lib.ListN.{length, getD, take, drop}
 use lib.Seq.{getD-take}
 use Rattle.functions.specs.Functions.{functionCount, listingOf}
-use Rattle.scalars.specs.declared.refusal.Refusal.{Refusal}
+use Rattle.scalars.specs.Paper.{Paper, accepted, refusal}
 use Rattle.worksheet.specs.declared.sheet.Sheet.{Sheet}
 use Rattle.worksheet.specs.declared.stack.Stack.{Stack}
-use Rattle.expressions.specs.declared.expression.Read.the-variants as reading
 use Rattle.worksheet.specs.declared.progress.Progress.{Progress}
-use Rattle.worksheet.specs.declared.progress.Verdict.the-variants.{Clean}
-use Rattle.worksheet.specs.declared.typer.TypeAnswer.{TypeAnswer}
-use Rattle.worksheet.specs.declared.typer.TypeAnswer.the-variants as answers
-use Rattle.expressions.specs.Tree.{Tree, bytesOf, WellFormed}
-use Rattle.expressions.specs.Reading.{read, expressionOf}
-use Rattle.expressions.specs.FirstPass.{readOf}
+use Rattle.expressions.specs.Tree.{Tree, bytesOf}
+use Rattle.expressions.specs.claims.Limits.{WellFormed}
+use Rattle.expressions.specs.Reading.{read, expressionOf, readOf}
 use Rattle.machine.specs.Line.{Line, encode}
 use Rattle.worksheet.specs.Typer.{Typed, typed, refused, typeOf}
-use Rattle.worksheet.specs.Answer.{enoughBytes, withRoom, answer, bufferAfter}
+use Rattle.worksheet.specs.Answer.{withRoom, bufferAfter}
+use Rattle.worksheet.specs.claims.Room.{enoughBytes}
 use Rattle.worksheet.specs.Typing.{typingOf, typing, answerOf}
-use Rattle.worksheet.specs.Sheet.{written, placed}
-use Rattle.worksheet.specs.Stack.{typesOn}
-use Rattle.worksheet.specs.SecondPass.{NodeThere, NodeClaim, NodeTyped, SheetFits, verdictAnswer, rootAnswer, rootBuffer}
+use Rattle.worksheet.specs.private.Sheet.{written, roomFor, placed}
+use Rattle.worksheet.specs.private.Stack.{typesOn}
+use Rattle.worksheet.specs.private.SecondPass.{NodeThere, NodeClaim, NodeTyped, SheetFits, roomAnswer, rootAnswer, rootBuffer}
 use Rattle.expressions.proofs.AcceptsExactly.{accepts-only}
 use Rattle.expressions.proofs.Answers.{accepted-tree, refused-fault}
 use Rattle.worksheet.proofs.Room.{four-each}
 use Rattle.worksheet.proofs.Pushes.{empty-full}
 use Rattle.worksheet.proofs.Typings.{Sized, sized}
+use Rattle.worksheet.proofs.Passes.{clash}
 use Rattle.worksheet.proofs.Written.{placed-short, placed-fits}
 
 -- an answer and a buffer that are those of a typing
-abbrev Answered : List ℕ → Typed → TypeAnswer → List ℕ → Type 0
+abbrev Answered : List ℕ → Typed ℕ → Paper → List ℕ → Type 0
 Answered d x a d′ = (a ≡ answerOf x) × (d′ ≡ bufferAfter x d)
 
 -- the room comes last
 with-room : (d : List ℕ) (t : ℕ) (ls : List Line) (result needed : ℕ) (bs : List ℕ)
     → result ≡ t → bs ≡ encode ls → needed ≡ length (encode ls)
-    → Answered d (withRoom d (typed t ls)) (verdictAnswer result needed (length d) Clean) (placed bs d)
+    → Answered d (withRoom d (typed t ls)) (roomAnswer result (roomFor needed (length d))) (placed bs d)
 with-room d t ls result needed bs re be ne = go (decLt (length d) (length (encode ls)))
   where
     go : Dec (length d < length (encode ls))
-        → Answered d (withRoom d (typed t ls)) (verdictAnswer result needed (length d) Clean) (placed bs d)
+        → Answered d (withRoom d (typed t ls)) (roomAnswer result (roomFor needed (length d))) (placed bs d)
     go (yes h) =
         rw (re, be, ne, lt-ltb (length d) (length (encode ls)) h, lt-leb (length (encode ls)) (length d) h)
         (refl, placed-short (encode ls) d h)
@@ -56,12 +54,12 @@ with-room d t ls result needed bs re be ne = go (decLt (length d) (length (encod
         (refl, placed-fits (encode ls) d (length (encode ls)) refl k)
 
 module _ (switch : Bool) (s d : List ℕ) where
-  pub first-fault : (why : Refusal) → reading.Refused why ≡ readOf (expressionOf functionCount s)
-      → Answered d (typing switch s d) (answers.Refused why) d
+  pub first-fault : (n p : ℕ) → refusal n p (255 ∷ []) ≡ readOf (expressionOf functionCount s)
+      → Answered d (typing switch s d) (refusal n p (255 ∷ [])) d
   unfolding typingOf
-  first-fault why e = rw (refused-fault (expressionOf functionCount s) why e) (refl, refl)
+  first-fault n p e = rw (refused-fault (expressionOf functionCount s) n p e) (refl, refl)
 
-  module _ (n : ℕ) (ok : reading.Accepted n ≡ readOf (expressionOf functionCount s)) where
+  module _ (n : ℕ) (ok : accepted (n ∷ []) ≡ readOf (expressionOf functionCount s)) where
     tree : (e : Tree) × (expressionOf functionCount s ≡ read e) × (drop 0 s ≡ bytesOf e ++ []) × WellFormed functionCount e
     tree =
         let (e, x, m) = accepted-tree (expressionOf functionCount s) n ok in
@@ -92,13 +90,13 @@ module _ (switch : Bool) (s d : List ℕ) where
             let (e, x, text, formed) = tree in
             go e formed (typeOf listingOf switch e 0) (claim e text formed) (sized switch e 0 (formed .known))
           where
-            go : (e : Tree) → WellFormed functionCount e → (x : Typed) → NodeClaim e 0 st h r x → Sized e x → r .sheet .len ≤ enoughBytes
-            go e formed (refused why) c z = let w : _≡_ {A = ℕ} 0 1 = cc in absurd (omega arith)
+            go : (e : Tree) → WellFormed functionCount e → (x : Typed ℕ) → NodeClaim e 0 st h r x → Sized e x → r .sheet .len ≤ enoughBytes
+            go e formed (refused k p) c z = clash clean c
             go e formed (typed t ls) c z = omega (arith, c .wrote .len-is, four-each ls, z .few, formed .few)
 
         -- the second pass is the typing of the tree, without the room
-        typed-root : (e : Tree) (x : Typed) → NodeClaim e 0 st h r x → Answered d (withRoom d x) (rootAnswer r (length d)) (rootBuffer r d)
-        typed-root e (refused why) c = rw c (refl, refl)
+        typed-root : (e : Tree) (x : Typed ℕ) → NodeClaim e 0 st h r x → Answered d (withRoom d x) (rootAnswer r (length d)) (rootBuffer r d)
+        typed-root e (refused k p) c = rw c (refl, refl)
         typed-root e (typed t ls) c =
             let types : typesOn (r .stack) ≡ t ∷ [] = c .pushed .types-are ∙ ap (λ i. take i (st .types) ++ (t ∷ [])) top in
             let here : 0 < r .stack .top = omega (arith, c .pushed .top-is) in
@@ -109,7 +107,7 @@ module _ (switch : Bool) (s d : List ℕ) where
             rw (c .verdict-is) (with-room d t ls (getD (r .stack .types) 0 0) (r .sheet .len) (written (r .sheet)) result bytes long)
 
         pub root-answer : Answered d (typing switch s d) (rootAnswer r (length d)) (rootBuffer r d)
-        unfolding typingOf answer
+        unfolding typingOf
         root-answer =
             let (e, x, text, formed) = tree in
             rw x (typed-root e (typeOf listingOf switch e 0) (claim e text formed))

@@ -9,7 +9,7 @@ use borrow.Author.Tests.{lt-ltb, le-ltb}
 use lib.ListN.{length, getD, take, drop, set, length-append}
 use lib.Seq.{take-suc, take-suc-set, drop-cons, set-at, append-snoc, length-take-le, length-front}
 use Rattle.worksheet.specs.declared.sheet.Sheet.{Sheet}
-use Rattle.worksheet.specs.Sheet.{Wrote, written, placed}
+use Rattle.worksheet.specs.private.Sheet.{Wrote, written, placed}
 
 -- one more in a counted array
 pub one-more : (s : List ℕ) (i a : ℕ) → i < length s → take (i + 1) (set s i a) ≡ take i s ++ (a ∷ [])

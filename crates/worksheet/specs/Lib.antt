@@ -2,11 +2,6 @@
 pub mod Places
 pub mod Typer
 pub mod Answer
-pub mod Meaning
-pub mod Fault
-pub mod Demand3
-pub mod Sheet
-pub mod Stack
 pub mod Typing
-pub mod SecondPass
-pub mod Readings
+pub mod private
+pub mod claims

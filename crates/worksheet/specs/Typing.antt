@@ -3,34 +3,35 @@
 use mathlib.Core.Bool.{Bool}
 use mathlib.Core.List.{List, [], _∷_}
 use Prim.Native.Nat.{ℕ}
-use Rattle.scalars.specs.Paper.{Paper, accepted, refused}
+use Rattle.scalars.specs.Paper as paper
+use Rattle.scalars.specs.Paper.{Paper}
 use Rattle.rules.specs.Signature.{Signature}
 use Rattle.functions.specs.Functions.{functionCount, listingOf}
-use Rattle.worksheet.specs.declared.typer.TypeAnswer.{TypeAnswer}
-use Rattle.worksheet.specs.declared.typer.TypeAnswer.the-variants.{Typed, Refused}
 use Rattle.expressions.specs.Reading.{Expression, read, refusedAs, expressionOf}
-use Rattle.worksheet.specs.Typer as typer
-use Rattle.worksheet.specs.Answer.{answer}
+use Rattle.worksheet.specs.declared.typer.TypeAnswer.{TypeAnswer}
+use Rattle.worksheet.specs.declared.typer.TypeAnswer.the-variants as answer
+use Rattle.worksheet.specs.Typer.{Typed, typed, refused, typeOf}
+use Rattle.worksheet.specs.Answer.{withRoom}
 
--- a fault of the first pass is the answer; a tree that was read is typed
-abbrev pub afterReading : (ℕ → List Signature) → Bool → List ℕ → Expression → typer.Typed
-afterReading listing switch buffer (read e) = answer listing switch e buffer
-afterReading listing switch buffer (refusedAs fault) = typer.refused fault
+-- a fault of the first pass is the answer; a tree that was read is typed, from offset 0 on
+abbrev pub afterReading : (ℕ → List Signature) → Bool → List ℕ → Expression → Typed ℕ
+afterReading listing switch buffer (read e) = withRoom buffer (typeOf listing switch e 0)
+afterReading listing switch buffer (refusedAs number place) = refused number place
 
 -- with so many functions, of these listings
-unfoldable pub typingOf : ℕ → (ℕ → List Signature) → Bool → List ℕ → List ℕ → typer.Typed
+unfoldable pub typingOf : ℕ → (ℕ → List Signature) → Bool → List ℕ → List ℕ → Typed ℕ
 typingOf functions listing switch s buffer = afterReading listing switch buffer (expressionOf functions s)
 
 -- with the functions of the crate `functions`
-abbrev pub typing : Bool → List ℕ → List ℕ → typer.Typed
+abbrev pub typing : Bool → List ℕ → List ℕ → Typed ℕ
 typing switch s buffer = typingOf functionCount listingOf switch s buffer
 
--- the answer as `type_expression` gives it: the lines stand in the buffer
-abbrev pub answerOf : typer.Typed → TypeAnswer
-answerOf (typer.typed t ls) = Typed t
-answerOf (typer.refused why) = Refused why
+-- the paper's number, place and type, 255 for the type of what is refused: of a typing, whose lines stand in the buffer, and of each
+-- case of the answer
+abbrev pub answerOf : Typed ℕ → Paper
+answerOf (typed t ls) = paper.accepted (t ∷ [])
+answerOf (refused number place) = paper.refusal number place (255 ∷ [])
 
--- the paper's number, place and type of each case, 255 for the type of what is refused
 abbrev pub typePaper : TypeAnswer → Paper
-typePaper (Typed t) = accepted (t ∷ [])
-typePaper (Refused why) = refused why (255 ∷ [])
+typePaper (answer.Typed t) = paper.accepted (t ∷ [])
+typePaper (answer.Refused why) = paper.refused why (255 ∷ [])

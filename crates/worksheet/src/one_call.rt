@@ -2,10 +2,13 @@
 // the call's own line, and the result in place of the operands; or the refusal, with its place in the expression.
 
 ghost use mathlib.Core.Path.{_≡_};
+ghost use mathlib.Core.List.{[]};
+ghost use Rattle.scalars.specs.Refusal.{numbered};
+ghost use Rattle.scalars.specs.Paper.{refused};
 ghost use Rattle.rules.specs.Rule.{argumentsOf};
 ghost use Rattle.machine.specs.Line.{encode, conversions};
-ghost use Rattle.worksheet.specs.Sheet.{Wrote};
-ghost use Rattle.worksheet.specs.SecondPass.{Within, placedAt, ConversionRoom, CallThere, CallTyped};
+ghost use Rattle.worksheet.specs.private.Sheet.{Wrote};
+ghost use Rattle.worksheet.specs.private.SecondPass.{Within, placedAt, ConversionRoom, CallThere, CallTyped};
 use crate::progress::Progress;
 use crate::progress::Verdict;
 use crate::sheet::Sheet;
@@ -69,8 +72,8 @@ pub(crate) fn type_call(
 // The refusal of a single call, with its place in the expression: the call's tag is at `at`, and its operands' offsets stand in
 // `starts` from the index `from` on. Besides 5 and 6 a call of a known function with known operands is refused only by 1.
 fn place(why: Refusal, at: usize, from: usize, starts: [usize; MOST_NODES]) -> Refusal
-    requires { ⌜ Within why from ⌝ }
-    ensures { λ r. ⌜ r ≡ placedAt at from starts why ⌝ }
+    requires { ⌜ Within (numbered why .0) (numbered why .1) from ⌝ }
+    ensures { λ r. ⌜ refused r [] ≡ placedAt at from starts (numbered why .0) (numbered why .1) ⌝ }
 {
     let number = why.number();
     if number == WRONG_COUNT {

@@ -7,8 +7,8 @@ ghost use mathlib.Core.Path.{_≡_};
 ghost use mathlib.Core.List.{[], _∷_};
 ghost use Prim.Native.Nat.{_+_, _≤_, _<_};
 ghost use lib.ListN.{length, take};
-ghost use Rattle.worksheet.specs.Answer.{enoughBytes};
-ghost use Rattle.worksheet.specs.Sheet.{Wrote, roomFor, placed};
+ghost use Rattle.worksheet.specs.claims.Room.{enoughBytes};
+ghost use Rattle.worksheet.specs.private.Sheet.{Wrote, roomFor, placed};
 
 // So many bytes hold the worksheet of any expression within the limits: fewer than two lines for each of 64 nodes.
 const ENOUGH_BYTES: usize = 508;

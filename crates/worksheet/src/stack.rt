@@ -5,7 +5,7 @@ ghost use mathlib.Core.Path.{_≡_};
 ghost use mathlib.Core.List.{[], _∷_};
 ghost use Prim.Native.Nat.{_<_, _≤_};
 ghost use Rattle.machine.specs.Machine.{mostOperands};
-ghost use Rattle.worksheet.specs.Stack.{Pushed, Cut};
+ghost use Rattle.worksheet.specs.private.Stack.{Pushed, Cut};
 use expressions::MOST_NODES;
 
 // The operands are the first `top`, the last of them on top.

@@ -8,8 +8,8 @@
 ghost use mathlib.Core.Path.{_≡_};
 ghost use lib.ListN.{length};
 ghost use Rattle.worksheet.specs.Answer.{bufferAfter};
-ghost use Rattle.worksheet.specs.SecondPass.{NodeThere, NodeTyped, ArgsThere, ArgsTyped, SheetFits, rootAnswer, rootBuffer};
-ghost use Rattle.worksheet.specs.Typing.{typing, answerOf};
+ghost use Rattle.worksheet.specs.private.SecondPass.{NodeThere, NodeTyped, ArgsThere, ArgsTyped, SheetFits, rootAnswer, rootBuffer};
+ghost use Rattle.worksheet.specs.Typing.{typing, answerOf, typePaper};
 use crate::one_call::type_call;
 use crate::progress::Progress;
 use crate::progress::Verdict;
@@ -36,7 +36,7 @@ pub enum TypeAnswer {
 // Types an expression and writes its worksheet into the lent buffer. First the faults of the first pass, then those of the second,
 // and the room last.
 pub fn type_expression(bytes: &[u8], switch: bool, out: &mut [u8]) -> TypeAnswer
-    ensures answer { λ r. ⌜ r ≡ answerOf (typing switch (now (bytes .entry)) (now (out .entry))) ⌝ }
+    ensures answer { λ r. ⌜ typePaper r ≡ answerOf (typing switch (now (bytes .entry)) (now (out .entry))) ⌝ }
     ensures buffer { λ _. ⌜ now (out .exit) ≡ bufferAfter (typing switch (now (bytes .entry)) (now (out .entry))) (now (out .entry)) ⌝ }
 {
     let read = read_expression(bytes, FUNCTION_COUNT);
@@ -52,7 +52,7 @@ pub fn type_expression(bytes: &[u8], switch: bool, out: &mut [u8]) -> TypeAnswer
 // The answer that the root's typing makes, with the worksheet copied out where it is clean and fits.
 fn answer(root: Progress, out: &mut [u8]) -> TypeAnswer
     requires { ⌜ SheetFits root ⌝ }
-    ensures answer { λ r. ⌜ r ≡ rootAnswer root (length (now (out .entry))) ⌝ }
+    ensures answer { λ r. ⌜ typePaper r ≡ rootAnswer root (length (now (out .entry))) ⌝ }
     ensures buffer { λ _. ⌜ now (out .exit) ≡ rootBuffer root (now (out .entry)) ⌝ }
 {
     let verdict = root.verdict;

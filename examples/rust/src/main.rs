@@ -13,7 +13,7 @@ fn main() {
     {
         match azwukran::call(function, operands, false) {
             Ok(call) => {
-                let survivors = azwukran::survivors(function, operands, false);
+                let survivors = azwukran::survivors(function, operands, false).unwrap_or_default();
                 println!("{name}{operands:?}: rule {} of {survivors:?}, type {}", call.index, call.result);
             }
             Err(refusal) => println!("{name}{operands:?}: {refusal}"),

@@ -1,49 +1,23 @@
--- `azwukran_list_arg` meets its contract: the members that the List answers are packed, or why it is no List.
--- Assumes nothing.
-use Rattle.packing.specs.Packing.{membersPacked}
-use Rattle.lists.specs.List.{listArg, refusedList}
-use Rattle.bindings.proofs.Answers.{packs-refused, packs-accepted}
+-- `azwukran_list_arg` meets its contract: the members that `list_arg` answers are lent over as many rules as were handed in. Assumes nothing.
+use mathlib.Core.Path.{refl, ap}
+use Rattle.bindings.specs.Lent.{membersLeft}
+use Rattle.bindings.proofs.LentMasks.{lent-as}
 use borrow.Author.Needs.{needs}
 use Rattle.bindings.proofs.list_sets.azwukran_list_arg.Statement.{statement}
 use Rattle.bindings.proofs.list_sets.azwukran_list_arg.Tie as tie
 
-list-from-requires : tie.Need-list-from-requires
-list-from-requires c κs = search needs
+list-arg-requires : tie.Need-list-arg-requires
+list-arg-requires c κs = search needs
 
-enum-known-verdict : tie.Need-enum-known-verdict
-enum-known-verdict c = search needs
+lend-members-requires : tie.Need-lend-members-requires
+lend-members-requires c κs = search needs
 
-pack-no-members-requires : tie.Need-pack-no-members-requires
-pack-no-members-requires c κs = search needs
-
-enum-told : tie.Need-enum-told
-enum-told c = search needs
-
-arg-requires : tie.Need-arg-requires
-arg-requires c κs = search needs
-
-pack-members-requires : tie.Need-pack-members-requires
-pack-members-requires c κs = search needs
+same-length : tie.Need-same-length
+same-length c = search needs
 
 returns : tie.Need-returns
-returns c =
-    packs-refused membersPacked (listArg (c .before .before .before .before .before .before .before .args .index) (c .before .before .before .before .before .before .before .args .code)) refusedList (c .pack-no-members .ensures) (c .before .before .verdict .given .1)
-    (c .before .before .before .before .before .list-from .ensures)
-
-returns-2 : tie.Need-returns-2
-returns-2 c =
-    packs-accepted membersPacked (listArg (c .before .before .before .before .before .before .before .args .index) (c .before .before .before .before .before .before .before .args .code)) refusedList (c .pack-members .ensures) (c .before .arg .ensures)
-    (c .before .before .enum-told .given .1) (c .before .before .before .before .before .list-from .ensures)
+returns c = lent-as _ _ refl (ap membersLeft (c .before .before .before .before .list-arg .ensures)) (c .before .before .lend-members .ensures)
 
 pub azwukran-list-arg-spec : {M : Type 1} → statement M
 azwukran-list-arg-spec =
-    tie.close
-    (tie.spec
-    list-from-requires
-    enum-known-verdict
-    pack-no-members-requires
-    enum-told
-    arg-requires
-    pack-members-requires
-    returns
-    returns-2)
+    tie.close (tie.spec list-arg-requires lend-members-requires same-length returns)

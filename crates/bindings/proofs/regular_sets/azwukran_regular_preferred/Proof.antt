@@ -1,56 +1,19 @@
--- `azwukran_regular_preferred` meets its contract: the rule that the set prefers is packed, or why there is none.
--- Assumes nothing.
-use mathlib.Core.Path.{sym, ap, _∙_}
-use Rattle.packing.specs.Packing.{rulePacked}
-use Rattle.rules.specs.RulePaper.{rulePaper}
-use Rattle.rules.specs.declared.rule.RuleAnswer.{RuleAnswer}
-use Rattle.rules.specs.declared.rule.RuleAnswer.the-variants as rule
-use Rattle.handmade.specs.Sets.{onRegular}
-use Rattle.regular.specs.Regular.{regularPreferred}
-use Rattle.regular.specs.declared.regular.RegularAnswer.{RegularAnswer}
-use Rattle.packing.proofs.Packs.{packs}
+-- `azwukran_regular_preferred` meets its contract: the struct of what `regular_preferred` answers. Assumes nothing.
+use mathlib.Core.Path.{ap, _∙_}
+use Rattle.c_answers.specs.Answers.{ruleForC}
 use borrow.Author.Needs.{needs}
 use Rattle.bindings.proofs.regular_sets.azwukran_regular_preferred.Statement.{statement}
 use Rattle.bindings.proofs.regular_sets.azwukran_regular_preferred.Tie as tie
 
-regular-from-requires : tie.Need-regular-from-requires
-regular-from-requires c κs = search needs
+regular-preferred-requires : tie.Need-regular-preferred-requires
+regular-preferred-requires c κs = search needs
 
-enum-known-why : tie.Need-enum-known-why
-enum-known-why c = search needs
-
-pack-rule-answer-requires : tie.Need-pack-rule-answer-requires
-pack-rule-answer-requires c κs = search needs
-
-enum-known-set : tie.Need-enum-known-set
-enum-known-set c = search needs
-
-most-preferred-requires : tie.Need-most-preferred-requires
-most-preferred-requires c κs = search needs
-
-pack-rule-answer-requires-2 : tie.Need-pack-rule-answer-requires-2
-pack-rule-answer-requires-2 c κs = search needs
+rule-for-c-requires : tie.Need-rule-for-c-requires
+rule-for-c-requires c κs = search needs
 
 returns : tie.Need-returns
-returns c =
-    packs (λ (a : RegularAnswer). rulePacked (rulePaper (onRegular a regularPreferred rule.Refused))) (c .pack-rule-answer .ensures)
-    (sym (c .before .before .before .before .regular-from .ensures) ∙ c .before .before .why .given .1)
-
-returns-2 : tie.Need-returns-2
-returns-2 c =
-    packs (λ (a : RegularAnswer). rulePacked (rulePaper (onRegular a regularPreferred rule.Refused)))
-    (c .pack-rule-answer2 .ensures ∙ ap (λ (a : RuleAnswer). rulePacked (rulePaper a)) (c .before .most-preferred .ensures))
-    (sym (c .before .before .before .before .before .regular-from .ensures) ∙ c .before .before .before .set .given .1)
+returns c = c .rule-for-c .ensures ∙ ap ruleForC (c .before .regular-preferred .ensures)
 
 pub azwukran-regular-preferred-spec : {M : Type 1} → statement M
 azwukran-regular-preferred-spec =
-    tie.close
-    (tie.spec
-    regular-from-requires
-    enum-known-why
-    pack-rule-answer-requires
-    enum-known-set
-    most-preferred-requires
-    pack-rule-answer-requires-2
-    returns
-    returns-2)
+    tie.close (tie.spec regular-preferred-requires rule-for-c-requires returns)

@@ -2,7 +2,7 @@
 -- Assumes nothing.
 use mathlib.Core.Path.{sym, _∙_}
 use borrow.Author.Tests.{lt-ltb, le-ltb}
-use Rattle.scalars.proofs.Scalars.{known-converts}
+use Rattle.domain.proofs.Combinations.{converts-told}
 use Rattle.domain.specs.Conversion.{convertsTo}
 use borrow.Author.Needs.{needs}
 use Rattle.domain.proofs.conversion.automatically_converts_to.Statement.{statement}
@@ -16,17 +16,22 @@ returns-2 : tie.Need-returns-2
 unfolding convertsTo
 returns-2 c = simp (lt-ltb _ _ (c .before .before .if1 .left), le-ltb _ _ (c .if2 .taken))
 
-scalar-converts-requires : tie.Need-scalar-converts-requires
-scalar-converts-requires c κs = search needs
+convertible-from-requires : tie.Need-convertible-from-requires
+convertible-from-requires c κs = search needs
+
+contains-requires : tie.Need-contains-requires
+contains-requires c κs = search needs
 
 returns-3 : tie.Need-returns-3
-unfolding convertsTo
-returns-3 c = simp (lt-ltb _ _ (c .before .before .before .before .if1 .left), lt-ltb _ _ (c .before .before .if2 .left), sym (known-converts _ _ (c .before .before .before .before .if1 .left) (c .before .before .if2 .left)) ∙ sym (c .before .scalar-converts .ensures) ∙ c .if3 .taken)
+returns-3 c =
+    let e = c .before .before in
+    sym (converts-told _ _ _ (e .before .before .before .if1 .left) (e .before .if2 .left) (e .convertible-from .ensures) (sym (c .before .contains .ensures) ∙ c .if3 .taken))
 
 returns-4 : tie.Need-returns-4
-unfolding convertsTo
-returns-4 c = simp (lt-ltb _ _ (c .before .before .before .before .if1 .left), lt-ltb _ _ (c .before .before .if2 .left), sym (known-converts _ _ (c .before .before .before .before .if1 .left) (c .before .before .if2 .left)) ∙ sym (c .before .scalar-converts .ensures) ∙ c .if3 .left)
+returns-4 c =
+    let e = c .before .before in
+    sym (converts-told _ _ _ (e .before .before .before .if1 .left) (e .before .if2 .left) (e .convertible-from .ensures) (sym (c .before .contains .ensures) ∙ c .if3 .left))
 
 pub automatically-converts-to-spec : {M : Type 1} → statement M
 automatically-converts-to-spec =
-    tie.close (tie.spec returns returns-2 scalar-converts-requires returns-3 returns-4)
+    tie.close (tie.spec returns returns-2 convertible-from-requires contains-requires returns-3 returns-4)

@@ -2,7 +2,7 @@
 -- Assumes nothing.
 use mathlib.Core.Path.{_∙_}
 use borrow.Author.Tests.{lt-ltb, le-ltb}
-use Rattle.domain.specs.Conversion.{consensusWithout}
+use Rattle.domain.specs.Conversion.{consensusOf}
 use Rattle.domain.proofs.Combinations.{first-none, first-without, first-agrees}
 use borrow.Author.Needs.{needs}
 use Rattle.domain.proofs.conversion.consensus_without.Statement.{statement}
@@ -15,25 +15,25 @@ add-t6 : tie.Need-add-t6
 add-t6 c = search needs
 
 returns : tie.Need-returns
-unfolding consensusWithout
+unfolding consensusOf
 returns c = simp (← c .before .first-unknown .ensures, lt-ltb _ _ (c .if1 .taken))
 
 returns-2 : tie.Need-returns-2
-unfolding consensusWithout
+unfolding consensusOf
 returns-2 c = simp (← c .before .before .first-unknown .ensures, le-ltb _ _ (c .before .if1 .left)) (first-none (c .before .before .before .before .args .components .now) (c .if2 .taken))
 
 shared-slice-read-first : tie.Need-shared-slice-read-first
 shared-slice-read-first c = search needs
 
 returns-3 : tie.Need-returns-3
-unfolding consensusWithout
+unfolding consensusOf
 returns-3 c = simp (← c .before .before .before .before .first-unknown .ensures, le-ltb _ _ (c .before .before .before .if1 .left)) (first-without (c .before .before .before .before .before .before .args .components .now) (c .before .before .if2 .left) (c .if3 .taken))
 
 agree-from-requires : tie.Need-agree-from-requires
 agree-from-requires c κs = search needs
 
 returns-4 : tie.Need-returns-4
-unfolding consensusWithout
+unfolding consensusOf
 returns-4 c = simp (← c .before .before .before .before .before .first-unknown .ensures, le-ltb _ _ (c .before .before .before .before .if1 .left)) (c .agree-from .ensures ∙ first-agrees (c .before .before .before .before .before .before .before .args .components .now) (c .before .before .before .if2 .left) (c .before .if3 .left))
 
 pub consensus-without-spec : {M : Type 1} → statement M

@@ -1,18 +1,22 @@
--- `type_parts` meets its contract: each range of codes in turn.
+-- `type_parts` meets its contract: in each range of codes, the parts by division have the code.
 -- Assumes nothing.
-use borrow.Author.Tests.{lt-ltb, le-ltb, le-leb, lt-leb, ne-eqb}
-use Rattle.domain.specs.TypeCode.{partsOf}
+use mathlib.Core.Path.{sym, ap}
+use mathlib.Core.List.{[], _∷_}
+use Prim.Native.Nat.{ℕ}
+use native.Mathlib.Omega.{arith}
+use Rattle.scalars.specs.Paper.{accepted}
+use Rattle.domain.specs.TypeCode.{known, unknown}
+use Rattle.domain.specs.declared.type_code.TypeParts.the-variants.{Value, Other, Modf, Frexp}
+use Rattle.domain.proofs.TypeCodes.{value-back, predeclared-back}
 use borrow.Author.Needs.{needs}
 use Rattle.domain.proofs.type_code.type_parts.Statement.{statement}
 use Rattle.domain.proofs.type_code.type_parts.Tie as tie
 
 returns : tie.Need-returns
-unfolding partsOf
-returns c = simp (lt-ltb _ _ (c .if1 .taken))
+returns c = known (Value _ _) (value-back _ (c .if1 .taken))
 
 returns-2 : tie.Need-returns-2
-unfolding partsOf
-returns-2 c = simp (c .if2 .taken)
+returns-2 c = known Other (ap (λ (n : ℕ). accepted (n ∷ [])) (sym (c .if2 .taken)))
 
 sub-n : tie.Need-sub-n
 sub-n c = search needs
@@ -21,19 +25,16 @@ add-t14 : tie.Need-add-t14
 add-t14 c = search needs
 
 returns-3 : tie.Need-returns-3
-unfolding partsOf
-returns-3 c = simp (le-ltb _ _ (c .before .before .if1 .left), ne-eqb _ _ (c .before .if2 .left), lt-ltb _ _ (c .if3 .taken))
+returns-3 c = known (Modf _ _) (predeclared-back 157 (c .before .before .before .args .code) (omega arith) (omega arith))
 
 add-t20 : tie.Need-add-t20
 add-t20 c = search needs
 
 returns-4 : tie.Need-returns-4
-unfolding partsOf
-returns-4 c = simp (le-ltb _ _ (c .before .before .before .if1 .left), ne-eqb _ _ (c .before .before .if2 .left), le-ltb _ _ (c .before .if3 .left), le-leb _ _ (c .if4 .taken))
+returns-4 c = known (Frexp _ _) (predeclared-back 169 (c .before .before .before .before .args .code) (omega arith) (omega arith))
 
 returns-5 : tie.Need-returns-5
-unfolding partsOf
-returns-5 c = simp (le-ltb _ _ (c .before .before .before .if1 .left), ne-eqb _ _ (c .before .before .if2 .left), le-ltb _ _ (c .before .if3 .left), lt-leb _ _ (c .if4 .left))
+returns-5 c = unknown (omega arith)
 
 pub type-parts-spec : {M : Type 1} → statement M
 type-parts-spec =

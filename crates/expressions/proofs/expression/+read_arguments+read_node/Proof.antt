@@ -4,12 +4,13 @@
 -- three bytes when it hands on to its arguments, and each argument that was read leaves fewer unread bytes to the others.
 -- Assumes nothing.
 use Prim.Native.Nat.{ℕ, _<_, _-_, _+_, _*_}
-use mathlib.Core.Path.{sym, _∙_}
+use mathlib.Core.Path.{sym, ap, _∙_}
 use native.Mathlib.Omega.{arith}
 use borrow.Author.Needs.{needs}
 use borrow.Fn.Kinds.{In}
 use borrow.Fn.PlainCycle.{Measures, is, falls, and}
 use lib.ListN.{length}
+use Rattle.expressions.specs.private.Step.{stepPaper}
 use Rattle.expressions.proofs.Steps
 use Rattle.expressions.proofs.expression.read_arguments.Reads as read-arguments
 use Rattle.expressions.proofs.expression.read_arguments.Kinds as read-arguments-kinds
@@ -68,19 +69,19 @@ module _ (t : ℕ) where
 
   arguments-read-arguments-requires : arguments.Need-read-arguments-requires arguments-claims arguments-at read-arguments.Post
   arguments-read-arguments-requires c κs =
-      let moved = Steps.node-moves _ _ _ _ _ _ _ (sym (c .before .one2 .given .1) ∙ c .before .before .before .read-node .ensures) in
+      let moved = Steps.node-moves _ _ _ _ _ _ _ (sym (ap stepPaper (c .before .one2 .given .1)) ∙ c .before .before .before .read-node .ensures) in
       (omega (arith, c .before .before .before .before .before .before .pre .0), tt)
 
   arguments-returns-2 : arguments.Need-returns-2 arguments-claims arguments-at read-arguments.Post
   arguments-returns-2 c =
-      Steps.args-fault _ _ _ _ (c .before .before .before .before .if1 .left) _
-      (sym (c .before .one .given .1) ∙ c .before .before .before .read-node .ensures)
+      Steps.args-fault _ _ _ _ (c .before .before .before .before .if1 .left) _ _
+      (sym (ap stepPaper (c .before .one .given .1)) ∙ c .before .before .before .read-node .ensures)
 
   arguments-returns-3 : arguments.Need-returns-3 arguments-claims arguments-at read-arguments.Post
   arguments-returns-3 c =
       c .read-arguments .ensures
       ∙ Steps.args-others _ _ _ _ (c .before .before .before .before .before .if1 .left) _ _
-      (sym (c .before .before .one2 .given .1) ∙ c .before .before .before .before .read-node .ensures)
+      (sym (ap stepPaper (c .before .before .one2 .given .1)) ∙ c .before .before .before .before .read-node .ensures)
 
   node-returns : node.Need-returns node-claims node-at read-node.Post
   node-returns c = Steps.no-tag _ _ _ _ _ (c .if1 .taken)

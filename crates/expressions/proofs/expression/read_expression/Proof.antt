@@ -1,8 +1,9 @@
 -- `read_expression` answers what the definition of the first pass does: the root's fault, the first byte left over, or the number
 -- of nodes of the tree that the definition reads. Each is a law of proofs/Steps.antt.
 -- Assumes nothing.
-use mathlib.Core.Path.{sym, _∙_}
+use mathlib.Core.Path.{sym, ap, _∙_}
 use borrow.Author.Needs.{needs}
+use Rattle.expressions.specs.private.Step.{stepPaper}
 use Rattle.expressions.proofs.Steps.{expression-fault, expression-over, expression-whole}
 use Rattle.expressions.proofs.expression.read_expression.Statement.{statement}
 use Rattle.expressions.proofs.expression.read_expression.Tie as tie
@@ -19,15 +20,15 @@ enum-known-root-2 c = search needs
 returns : tie.Need-returns
 returns c =
     expression-over _ _ _ _
-    (sym (c .before .before .root2 .given .1) ∙ c .before .before .before .before .read-node .ensures) (c .if1 .taken)
+    (sym (ap stepPaper (c .before .before .root2 .given .1)) ∙ c .before .before .before .before .read-node .ensures) (c .if1 .taken)
 
 returns-2 : tie.Need-returns-2
-returns-2 c = expression-fault _ _ _ (sym (c .before .root .given .1) ∙ c .before .before .before .read-node .ensures)
+returns-2 c = expression-fault _ _ _ _ (sym (ap stepPaper (c .before .root .given .1)) ∙ c .before .before .before .read-node .ensures)
 
 returns-3 : tie.Need-returns-3
 returns-3 c =
     expression-whole _ _ _ _
-    (sym (c .before .before .root2 .given .1) ∙ c .before .before .before .before .read-node .ensures) (c .if1 .left)
+    (sym (ap stepPaper (c .before .before .root2 .given .1)) ∙ c .before .before .before .before .read-node .ensures) (c .if1 .left)
 
 pub read-expression-spec : {M : Type 1} → statement M
 read-expression-spec =

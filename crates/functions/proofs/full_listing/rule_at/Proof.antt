@@ -4,6 +4,7 @@ use native.Mathlib.Omega.{arith}
 use Rattle.listed.specs.ListedRules.{listedRules}
 use Rattle.functions.proofs.Indices.{rule-here, rule-past}
 use Rattle.functions.proofs.Database.{regular-built, rule-of-set}
+use Rattle.functions.proofs.FunctionPapers.{set-told}
 use borrow.Author.Needs.{needs}
 use Rattle.functions.proofs.full_listing.rule_at.Statement.{statement}
 use Rattle.functions.proofs.full_listing.rule_at.Tie as tie
@@ -15,7 +16,7 @@ enum-known-set : tie.Need-enum-known-set
 enum-known-set c = search needs
 
 regular-rule-requires : tie.Need-regular-rule-requires
-regular-rule-requires c κs = regular-built (c .before .before .before .before .args .function) (sym (c .before .before .before .function-set .ensures) ∙ c .before .set .given .1)
+regular-rule-requires c κs = regular-built (c .before .before .before .before .args .function) (set-told _ _ (c .before .before .before .function-set .ensures) (c .before .set .given .1))
 
 enum-known-listed : tie.Need-enum-known-listed
 enum-known-listed c = search needs
@@ -24,7 +25,7 @@ rule-count-requires : tie.Need-rule-count-requires
 rule-count-requires c κs = search needs
 
 returns : tie.Need-returns
-returns c = sym (rule-of-set (c .before .before .before .before .before .before .args .function) (c .before .before .before .before .before .before .args .index) (sym (c .before .before .before .before .before .function-set .ensures) ∙ c .before .before .before .listed .given .1) ∙ rule-past (listedRules _) (c .before .before .before .before .before .before .args .index) (omega (arith, c .before .rule-count .ensures)))
+returns c = sym (rule-of-set (c .before .before .before .before .before .before .args .function) (c .before .before .before .before .before .before .args .index) (set-told _ _ (c .before .before .before .before .before .function-set .ensures) (c .before .before .before .listed .given .1)) ∙ rule-past (listedRules _) (c .before .before .before .before .before .before .args .index) (omega (arith, c .before .rule-count .ensures)))
 
 listed-rule-requires : tie.Need-listed-rule-requires
 listed-rule-requires c κs = search needs
@@ -33,13 +34,13 @@ enum-told : tie.Need-enum-told
 enum-told c = search needs
 
 returns-2 : tie.Need-returns-2
-returns-2 c = c .regular-rule .ensures ∙ sym (rule-of-set (c .before .before .before .before .before .args .function) (c .before .before .before .before .before .args .index) (sym (c .before .before .before .before .function-set .ensures) ∙ c .before .before .set .given .1))
+returns-2 c = c .regular-rule .ensures ∙ sym (rule-of-set (c .before .before .before .before .before .args .function) (c .before .before .before .before .before .args .index) (set-told _ _ (c .before .before .before .before .function-set .ensures) (c .before .before .set .given .1)))
 
 returns-3 : tie.Need-returns-3
-returns-3 c = rw (c .listed-rule .ensures) (sym (rule-of-set (c .before .before .before .before .before .before .before .args .function) (c .before .before .before .before .before .before .before .args .index) (sym (c .before .before .before .before .before .before .function-set .ensures) ∙ c .before .before .before .before .listed .given .1) ∙ rule-here (listedRules _) (c .before .before .before .before .before .before .before .args .index) (omega (arith, c .before .before .rule-count .ensures))))
+returns-3 c = rw (c .listed-rule .ensures) (sym (rule-of-set (c .before .before .before .before .before .before .before .args .function) (c .before .before .before .before .before .before .before .args .index) (set-told _ _ (c .before .before .before .before .before .before .function-set .ensures) (c .before .before .before .before .listed .given .1)) ∙ rule-here (listedRules _) (c .before .before .before .before .before .before .before .args .index) (omega (arith, c .before .before .rule-count .ensures))))
 
 returns-4 : tie.Need-returns-4
-returns-4 c = sym (rule-of-set (c .before .before .before .args .function) (c .before .before .before .args .index) (sym (c .before .before .function-set .ensures) ∙ c .enum-told .given .1))
+returns-4 c = sym (rule-of-set (c .before .before .before .args .function) (c .before .before .before .args .index) (set-told _ _ (c .before .before .function-set .ensures) (c .enum-told .given .1)))
 
 pub rule-at-spec : {M : Type 1} → statement M
 rule-at-spec =

@@ -1,8 +1,9 @@
 -- `function_set` meets its contract: each arm stands for the functions, from a number on, that have its set. Assumes nothing.
-use mathlib.Core.Path.{refl, sym, _∙_}
+use mathlib.Core.Path.{refl, sym, ap, _∙_}
 use native.Mathlib.Omega.{arith}
+use Rattle.functions.specs.FunctionPaper.{functionPaper}
 use Rattle.functions.specs.Functions.{functionSets}
-use Rattle.functions.proofs.Database.{sets-from}
+use Rattle.functions.proofs.Database.{sets-from, set-of}
 use borrow.Author.Needs.{needs}
 use Rattle.functions.proofs.mathfunction.function_set.Statement.{statement}
 use Rattle.functions.proofs.mathfunction.function_set.Tie as tie
@@ -45,46 +46,46 @@ remaining-requires c κs = search needs
 
 returns : tie.Need-returns
 unfolding functionSets
-returns c = c .component-wise .ensures ∙ sym (sets-from 4 1 refl (omega arith) (omega arith))
+returns c = ap functionPaper (c .component-wise .ensures ∙ sym (sets-from 4 1 refl (omega arith) (omega arith))) ∙ set-of _
 
 returns-2 : tie.Need-returns-2
 unfolding functionSets
-returns-2 c = c .component-wise2 .ensures ∙ sym (sets-from 0 2 refl (omega arith) (omega arith))
+returns-2 c = ap functionPaper (c .component-wise2 .ensures ∙ sym (sets-from 0 2 refl (omega arith) (omega arith))) ∙ set-of _
 
 returns-3 : tie.Need-returns-3
 unfolding functionSets
-returns-3 c = c .component-wise3 .ensures ∙ sym (sets-from 2 2 refl (omega arith) (omega arith))
+returns-3 c = ap functionPaper (c .component-wise3 .ensures ∙ sym (sets-from 2 2 refl (omega arith) (omega arith))) ∙ set-of _
 
 returns-4 : tie.Need-returns-4
 unfolding functionSets
-returns-4 c = c .component-wise4 .ensures ∙ sym (sets-from 5 26 refl (omega arith) (omega arith))
+returns-4 c = ap functionPaper (c .component-wise4 .ensures ∙ sym (sets-from 5 26 refl (omega arith) (omega arith))) ∙ set-of _
 
 returns-5 : tie.Need-returns-5
 unfolding functionSets
-returns-5 c = c .component-wise5 .ensures ∙ sym (sets-from 31 3 refl (omega arith) (omega arith))
+returns-5 c = ap functionPaper (c .component-wise5 .ensures ∙ sym (sets-from 31 3 refl (omega arith) (omega arith))) ∙ set-of _
 
 returns-6 : tie.Need-returns-6
 unfolding functionSets
-returns-6 c = c .component-wise6 .ensures ∙ sym (sets-from 34 2 refl (omega arith) (omega arith))
+returns-6 c = ap functionPaper (c .component-wise6 .ensures ∙ sym (sets-from 34 2 refl (omega arith) (omega arith))) ∙ set-of _
 
 returns-7 : tie.Need-returns-7
 unfolding functionSets
-returns-7 c = c .component-wise7 .ensures ∙ sym (sets-from 36 6 refl (omega arith) (omega arith))
+returns-7 c = ap functionPaper (c .component-wise7 .ensures ∙ sym (sets-from 36 6 refl (omega arith) (omega arith))) ∙ set-of _
 
 returns-8 : tie.Need-returns-8
-returns-8 c = search needs
+returns-8 c = ap functionPaper (c .packing .ensures) ∙ set-of _
 
 returns-9 : tie.Need-returns-9
-returns-9 c = search needs
+returns-9 c = ap functionPaper (c .unpacking .ensures) ∙ set-of _
 
 returns-10 : tie.Need-returns-10
-returns-10 c = search needs
+returns-10 c = ap functionPaper (c .one-off .ensures) ∙ set-of _
 
 returns-11 : tie.Need-returns-11
-returns-11 c = search needs
+returns-11 c = ap functionPaper (c .geometric .ensures) ∙ set-of _
 
 returns-12 : tie.Need-returns-12
-returns-12 c = search needs
+returns-12 c = ap functionPaper (c .remaining .ensures) ∙ set-of _
 
 pub function-set-spec : {M : Type 1} → statement M
 function-set-spec =

@@ -1,43 +1,39 @@
--- `list_from` meets its contract: its test of the length is the one that `listFrom` makes.
--- Assumes nothing.
-use mathlib.Core.Path.{ap}
-use mathlib.Core.List as L
-use Prim.Native.Nat.{_/_}
-use denote.Ref.{now}
-use lib.ListN.{length}
-use borrow.Author.Tests.{eq-eqb, ne-eqb}
-use Rattle.scalars.specs.declared.answer.Verdict.the-variants.{Accepted}
-use Rattle.lists.specs.List.{acceptedList, refusedList}
-use Rattle.rules.specs.declared.rule.Rule.{Rule}
-use Rattle.handmade.specs.Sets.{listFrom}
+-- `list_from` meets its contract: the List of these bytes is tested. Assumes nothing.
+use mathlib.Core.Path.{_∙_}
+use Rattle.handmade.proofs.AskedLists.{asked-refused, asked-accepted}
 use borrow.Author.Needs.{needs}
 use Rattle.handmade.proofs.list_parts.list_from.Statement.{statement}
 use Rattle.handmade.proofs.list_parts.list_from.Tie as tie
 
-mul-t7 : tie.Need-mul-t7
-mul-t7 c = search needs
+list-in-requires : tie.Need-list-in-requires
+list-in-requires c κs = search needs
+
+enum-known-verdict : tie.Need-enum-known-verdict
+enum-known-verdict c = search needs
+
+no-list-requires : tie.Need-no-list-requires
+no-list-requires c κs = search needs
+
+enum-told : tie.Need-enum-told
+enum-told c = search needs
+
+checked-requires : tie.Need-checked-requires
+checked-requires c κs = search needs
 
 returns : tie.Need-returns
-unfolding listFrom refusedList
-returns c = rw (ne-eqb _ _ (c .if1 .taken))
-
-rules-in-requires : tie.Need-rules-in-requires
-rules-in-requires c κs = search needs
+returns c = c .no-list .ensures ∙ asked-refused _ _ (c .before .before .before .before .before .list-in .result) _ _ (c .before .before .before .before .before .list-in .ensures) (c .before .before .verdict .given .1)
 
 returns-2 : tie.Need-returns-2
-unfolding listFrom acceptedList
-returns-2 c =
-    rw (eq-eqb _ _ (c .before .if1 .left))
-    (ap
-    (λ (rs : L.List Rule). record {
-      answer = Accepted;
-      list = record {
-        rules = rs;
-        len = length (now (c .before .before .before .args .bytes)) / 6;
-        members = c .before .before .before .args .members;
-      };
-    })
-    (c .rules-in .ensures))
+returns-2 c = asked-accepted _ _ (c .before .before .before .before .list-in .result) _ _ (c .before .before .before .before .list-in .ensures) (c .before .enum-told .given .1) (c .checked .ensures)
 
 pub list-from-spec : {M : Type 1} → statement M
-list-from-spec = tie.close (tie.spec mul-t7 returns rules-in-requires returns-2)
+list-from-spec =
+    tie.close
+    (tie.spec
+    list-in-requires
+    enum-known-verdict
+    no-list-requires
+    enum-told
+    checked-requires
+    returns
+    returns-2)

@@ -2,6 +2,8 @@
 -- Assumes nothing.
 use borrow.Author.Tests.{le-leb, lt-leb}
 use Rattle.handmade.specs.Sets.{byteRule}
+use native.Mathlib.Nat.{add-zero}
+use lib.Seq.{getD-drop}
 use borrow.Author.Needs.{needs}
 use Rattle.handmade.proofs.list_parts.rule_in.Statement.{statement}
 use Rattle.handmade.proofs.list_parts.rule_in.Tie as tie
@@ -51,7 +53,7 @@ shared-slice-read-t21 c = search needs
 
 returns-2 : tie.Need-returns-2
 unfolding byteRule
-returns-2 c = rw (le-leb _ _ (c .before .before .before .before .before .before .if1 .left))
+returns-2 c = simp (le-leb _ _ (c .before .before .before .before .before .before .if1 .left), getD-drop, add-zero)
 
 pub rule-in-spec : {M : Type 1} → statement M
 rule-in-spec =

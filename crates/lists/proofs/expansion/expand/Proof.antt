@@ -1,23 +1,25 @@
 -- `expand` meets its contract: the listing's first 63 records are the List's, where there are no more.
 -- Assumes nothing.
-use mathlib.Core.Path.{_≡_, sym, _∙_}
+use mathlib.Core.Path.{_≡_, sym, ap, _∙_}
 use Prim.Native.Nat.{_*_, _≤_}
 use native.Mathlib.Omega.{arith}
 use lib.Count.{ones}
 use lib.ListN.{length}
-use Rattle.scalars.specs.declared.answer.Verdict.the-variants.{Accepted}
+use mathlib.Core.List.{[]}
+use Rattle.scalars.specs.Paper.{accepted}
 use Rattle.regular.specs.Regular.{regularVerdict, codesOf}
 use Rattle.lists.specs.Expansion.{expanded}
 use Rattle.regular.proofs.Regulars.{accepted-known, codes-count}
 use Rattle.regular.proofs.Listings.{codes-few}
 use Rattle.lists.proofs.Expanding.{expand-many, expand-refused, expand-list}
+use Rattle.scalars.specs.Paper.{verdictPaper}
 use borrow.Author.Needs.{needs}
 use Rattle.lists.proofs.expansion.expand.Statement.{statement}
 use Rattle.lists.proofs.expansion.expand.Tie as tie
 
 -- the set is accepted, and the product of its two counts is the number of its rules
-ok : (c : tie.After-enum-told) → regularVerdict (c .before .before .before .args .set) ≡ Accepted
-ok c = sym (c .before .before .verdict .ensures) ∙ c .enum-told .given .1
+ok : (c : tie.After-enum-told) → regularVerdict (c .before .before .before .args .set) ≡ accepted []
+ok c = sym (c .before .before .verdict .ensures) ∙ ap verdictPaper (c .enum-told .given .1)
 
 many : (c : tie.After-enum-told) → ones (c .before .before .before .args .set .constructors .0) * ones (c .before .before .before .args .set .scalars .0) ≡ length (codesOf (c .before .before .before .args .set))
 many c = sym (codes-count (c .before .before .before .args .set) (accepted-known (c .before .before .before .args .set) (ok c)))
@@ -36,7 +38,7 @@ refused-requires c κs = search needs
 
 returns : tie.Need-returns
 unfolding expanded
-returns c = rw (sym (c .before .before .before .before .verdict .ensures) ∙ c .before .before .why .given .1) (c .refused .ensures)
+returns c = rw (sym (c .before .before .before .before .verdict .ensures) ∙ ap verdictPaper (c .before .before .why .given .1)) (c .refused .ensures)
 
 enum-told : tie.Need-enum-told
 enum-told c = search needs

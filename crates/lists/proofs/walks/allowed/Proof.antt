@@ -1,7 +1,7 @@
 -- `allowed` meets its contract. The loop's invariant: the types so far, followed by those of the members that are left, are the whole
 -- listing of types, and the rest have the argument if and only if all have it. Assumes nothing.
 use mathlib.Core.Path.{_≡_, refl, sym, ap, ap₂, _∙_}
-use mathlib.Core.List.{List, map}
+use mathlib.Core.List.{List, _∷_, map}
 use Prim.Native.Nat.{ℕ, _+_, _*_, _%_, _^_, _<_}
 use native.Mathlib.Nat.{zero-add}
 use native.Mathlib.Omega.{arith}
@@ -9,11 +9,12 @@ use lib.Count.{trailingZeros}
 use lib.ListN.{length, getD, length-set, length-map, length-replicate}
 use lib.Seq.{sets}
 use Rattle.scalars.specs.Mask.{select, padded, every}
-use Rattle.rules.specs.Listing.{acceptedTypes, typeAt, hasAt}
+use Rattle.rules.specs.Listing.{acceptedTypes}
+use Rattle.rules.specs.Signature.{typeAt}
 use Rattle.lists.specs.List.{signatures, listing}
-use Rattle.scalars.specs.declared.answer.CountAnswer.the-variants.{Count}
+use Rattle.scalars.specs.Paper.{accepted}
 use Rattle.scalars.proofs.Fills.{filled, fill-step, fill-end}
-use Rattle.rules.proofs.Records.{zeroRule}
+use Rattle.rules.proofs.Records.{zeroRule, hasAt}
 use Rattle.lists.proofs.Lists.{Member, member, none-left, listing-length}
 use Rattle.lists.proofs.TypesAt.{lacks, has, all-have}
 use Rattle.lists.proofs.walks.allowed.Statement.{statement}
@@ -106,7 +107,7 @@ cast-t22 c = omega (arith, all c, listing-length (c .before .before .before .arg
 returns-2 : tie.Need-returns-2 Inv-loop μ-loop
 unfolding acceptedTypes
 returns-2 c =
-    ap₂ (λ (n : ℕ) (ts : List ℕ). record { answer = Count n; codes = ts }) (all c ∙ sym (length-map (listing (c .before .before .before .args .t1)) (typeAt (c .before .before .before .args .i))))
+    ap₂ (λ (n : ℕ) (ts : List ℕ). accepted (n ∷ ts)) (all c ∙ sym (length-map (listing (c .before .before .before .args .t1)) (typeAt (c .before .before .before .args .i))))
     (fill-end _ _ (ap (map (typeAt (c .before .before .before .args .i))) (none-left _ (c .loop-test .left))) (c .before .loop .inv .3))
     ∙ all-have _ _ (c .before .loop .inv .4) (none-left _ (c .loop-test .left))
 

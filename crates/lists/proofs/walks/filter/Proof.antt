@@ -1,9 +1,9 @@
 -- `filter` meets its contract. The loop's invariant: the members kept so far, and those that pass among the rest, are those that pass.
 -- Assumes nothing.
-use mathlib.Core.Path.{_≡_, sym, ap, _∙_}
+use mathlib.Core.Path.{_≡_, sym, _∙_}
 use mathlib.Core.Bool.{Bool, true, false}
 use mathlib.Core.Logic.{⊎-elim}
-use Prim.Native.Nat.{ℕ, _+_, _-_, _*_, _%_, _^_, _<_, min}
+use Prim.Native.Nat.{_+_, _-_, _*_, _%_, _^_, _<_, min}
 use native.Mathlib.Nat.{zero-add}
 use native.Mathlib.Omega.{arith}
 use lib.Count.{trailingZeros}
@@ -11,7 +11,7 @@ use lib.ListN.{length, getD}
 use borrow.Author.Needs.{needs}
 use Rattle.scalars.specs.Mask.{sift}
 use Rattle.rules.specs.Rule.{passes}
-use Rattle.lists.specs.List.{signatures, kept}
+use Rattle.lists.specs.List.{signatures}
 use Rattle.scalars.proofs.Masks.{gain, sift-le, mapped-long}
 use Rattle.rules.proofs.Records.{zeroRule}
 use Rattle.lists.proofs.Lists.{Turned, turned, with-rules-less, with-rules-sifted}
@@ -19,7 +19,7 @@ use Rattle.lists.proofs.walks.filter.Statement.{statement}
 use Rattle.lists.proofs.walks.filter.Tie as tie
 
 abbrev Inv-loop : tie.InvT-loop
-Inv-loop keep list rest₀ left₀ rest left = (rest < 2 ^ min (list .len) 63) × (left + sift (passes keep) (signatures list) rest ≡ sift (passes keep) (signatures list) (list .members))
+Inv-loop keep list rest₀ left₀ rest left = (rest < 2 ^ min (list .len) 63) × (left + sift (passes keep) (signatures list) rest ≡ sift (passes keep) (signatures list) rest₀)
 
 abbrev μ-loop : tie.MeasureT-loop
 μ-loop keep list rest₀ left₀ rest left = rest
@@ -42,7 +42,7 @@ tested c b e = rw (sym e ∙ c .passes .ensures) (lowest (c .before .before) .st
 loop-holds : tie.Need-loop-holds Inv-loop μ-loop
 loop-holds c =
     let l = c .before .args .t1 in
-    (with-rules-less l (long (c .before)) (c .with-rules .ensures), zero-add _ ∙ with-rules-sifted l (long (c .before)) (c .with-rules .ensures) _)
+    (with-rules-less l (long (c .before)) _ (c .with-rules .ensures), zero-add _)
 
 with-rules-requires : tie.Need-with-rules-requires Inv-loop μ-loop
 with-rules-requires c κs = tt
@@ -68,7 +68,7 @@ add-left c =
       arith,
       tested (c .before) true (c .if1 .taken),
       sift-le (passes (c .before .before .before .before .before .before .args .keep)) (signatures (c .before .before .before .before .before .before .args .t1))
-          (c .before .before .before .before .before .before .args .t1 .members),
+          (c .before .before .before .before .before .with-rules .result),
     )
 
 sub-rest : tie.Need-sub-rest Inv-loop μ-loop
@@ -84,10 +84,11 @@ loop-again c = (
 )
 
 returns : tie.Need-returns Inv-loop μ-loop
-unfolding kept
 returns c =
-    ap (λ (m : ℕ). record { rules = c .before .before .before .before .args .t1 .rules; len = c .before .before .before .before .args .t1 .len; members = m })
-    (omega (arith, sift-le (passes (c .before .before .before .before .args .keep)) (signatures (c .before .before .before .before .args .t1)) (c .before .before .loop .rest)))
+    let start = c .before .before .before in
+    let p = passes (start .args .keep) in
+    let l = start .args .t1 in
+    omega (arith, sift-le p (signatures l) (c .before .loop .rest), with-rules-sifted l (long start) (start .args .rules .0) (c .before .before .with-rules .ensures) p)
 
 pub filter-spec : {M : Type 1} → statement M
 filter-spec =

@@ -1,7 +1,7 @@
 -- `listed` meets its contract. The loop's invariant: the records so far, followed by those of the members that are left, are the whole
 -- listing. Assumes nothing.
 use mathlib.Core.Path.{_≡_, ap, ap₂, _∙_}
-use mathlib.Core.List.{List, map}
+use mathlib.Core.List.{List, map, _∷_}
 use Prim.Native.Nat.{ℕ, _+_, _*_, _%_, _^_, _<_}
 use native.Mathlib.Nat.{zero-add}
 use native.Mathlib.Omega.{arith}
@@ -12,7 +12,8 @@ use Rattle.scalars.specs.Mask.{select, padded}
 use Rattle.rules.specs.Rule.{blankRule, ruleOf}
 use Rattle.rules.specs.Listing.{acceptedListing}
 use Rattle.lists.specs.List.{signatures, listing}
-use Rattle.scalars.specs.declared.answer.CountAnswer.the-variants.{Count}
+use Rattle.scalars.specs.Paper.{accepted}
+use Rattle.rules.specs.RulePaper.{rulesValues}
 use Rattle.rules.specs.declared.rule.Rule.{Rule}
 use Rattle.scalars.proofs.Fills.{filled, fill-step, fill-end}
 use Rattle.rules.proofs.Records.{zeroRule}
@@ -91,7 +92,7 @@ cast-t19 c = omega (arith, all c, listing-length (c .before .before .before .arg
 returns : tie.Need-returns Inv-loop μ-loop
 unfolding acceptedListing
 returns c =
-    ap₂ (λ (n : ℕ) (rs : List Rule). record { answer = Count n; rules = rs }) (all c)
+    ap₂ (λ (n : ℕ) (rs : List Rule). accepted (n ∷ rulesValues rs)) (all c)
     (fill-end _ _ (ap (map ruleOf) (none-left _ (c .loop-test .left))) (c .before .loop .inv .3))
 
 pub listed-spec : {M : Type 1} → statement M

@@ -10,7 +10,9 @@ use borrow.Author.Needs.{needs}
 use Rattle.scalars.specs.Mask.{select}
 use Rattle.rules.specs.Verdict.{longest}
 use Rattle.lists.specs.List.{signatures, listing}
-use Rattle.scalars.specs.declared.answer.CountAnswer.the-variants.{Count}
+use mathlib.Core.List.{[], _∷_}
+use Prim.Native.Nat.{ℕ}
+use Rattle.scalars.specs.Paper.{accepted}
 use Rattle.scalars.proofs.Masks.{mapped-long}
 use Rattle.rules.proofs.Records.{zeroRule}
 use Rattle.lists.proofs.Lists.{Turned, turned, none-left, with-rules-less, with-rules-listed, counted-none, counted}
@@ -40,7 +42,7 @@ loop-holds : tie.Need-loop-holds Inv-loop μ-loop
 loop-holds c =
     let l = c .before .before .args .t1 in
     let m = c .before .with-rules .ensures in
-    (with-rules-less l (long (c .before .before)) m, omega (arith, ap longest (with-rules-listed l (long (c .before .before)) m)))
+    (with-rules-less l (long (c .before .before)) (l .members) m, omega (arith, ap longest (with-rules-listed l (long (c .before .before)) m)))
 
 cast-n : tie.Need-cast-n Inv-loop μ-loop
 cast-n c = omega (arith, lowest c .below)
@@ -73,7 +75,7 @@ loop-again c = (
 )
 
 returns-2 : tie.Need-returns-2 Inv-loop μ-loop
-returns-2 c = ap Count (omega (arith, ap longest (none-left (c .before .before .before .before .args .t1) (c .loop-test .left)))) ∙ counted _ (long (c .before .before .before .before)) (c .before .before .before .with-rules .ensures) (omega arith)
+returns-2 c = ap (λ (n : ℕ). accepted (n ∷ [])) (omega (arith, ap longest (none-left (c .before .before .before .before .args .t1) (c .loop-test .left)))) ∙ counted _ (long (c .before .before .before .before)) (c .before .before .before .with-rules .ensures) (omega arith)
 
 pub longest-spec : {M : Type 1} → statement M
 longest-spec =

@@ -16,12 +16,12 @@ shl-result : tie.Need-shl-result
 shl-result c = omega (arith, c .held .ensures)
 
 rem-result : tie.Need-rem-result
-rem-result c = subst⁻¹ (λ (b : ℕ). 0 < b) (bit-is 64 (c .before .held .result) (omega (arith, c .before .held .ensures))) (pow-pos (c .before .held .result))
+rem-result c = subst⁻¹ (λ (b : ℕ). 0 < b) (bit-is 64 (c .held .result) (omega (arith, c .held .ensures))) (pow-pos (c .held .result))
 
 returns : tie.Need-returns
 returns c =
-    ap (λ (b : ℕ). c .before .before .args .list .members % b) (bit-is 64 (c .before .held .result) (omega (arith, c .before .held .ensures)))
-    ∙ ap (λ (k : ℕ). c .before .before .args .list .members % 2 ^ k) (c .before .held .ensures)
+    ap (λ (b : ℕ). c .before .args .mask % b) (bit-is 64 (c .held .result) (omega (arith, c .held .ensures)))
+    ∙ ap (λ (k : ℕ). c .before .args .mask % 2 ^ k) (c .held .ensures)
 
 pub with-rules-spec : {M : Type 1} → statement M
 with-rules-spec = tie.close (tie.spec held-requires shl-result rem-result returns)

@@ -1,6 +1,7 @@
 -- `call` applies the rule that the function's listing has at the index, and stops where there is none.
 -- Assumes nothing.
-use mathlib.Core.Path.{sym, _∙_}
+use mathlib.Core.Path.{sym, ap, _∙_}
+use Rattle.rules.specs.RulePaper.{rulePaper}
 use Rattle.machine.proofs.RuleRecords.{stands, none-there, called, uncalled}
 use borrow.Author.Needs.{needs}
 use Rattle.machine.proofs.machine.call.Statement.{statement}
@@ -14,7 +15,7 @@ enum-known-answer c = search needs
 
 apply-requires : tie.Need-apply-requires
 apply-requires c κs =
-    let there = stands _ _ _ (sym (c .before .answer .given .1) ∙ c .before .before .before .rule-at .ensures) in
+    let there = stands _ _ _ (ap rulePaper (sym (c .before .answer .given .1)) ∙ c .before .before .before .rule-at .ensures) in
     (c .before .before .before .before .pre, there .few)
 
 enum-told : tie.Need-enum-told
@@ -22,11 +23,11 @@ enum-told c = search needs
 
 returns : tie.Need-returns
 returns c =
-    let there = stands _ _ _ (sym (c .before .before .answer .given .1) ∙ c .before .before .before .before .rule-at .ensures) in
+    let there = stands _ _ _ (ap rulePaper (sym (c .before .before .answer .given .1)) ∙ c .before .before .before .before .rule-at .ensures) in
     called _ _ _ _ _ there (c .apply .ensures)
 
 returns-2 : tie.Need-returns-2
-returns-2 c = uncalled _ _ _ _ (none-there _ _ _ (sym (c .enum-told .given .1) ∙ c .before .before .rule-at .ensures))
+returns-2 c = uncalled _ _ _ _ (none-there _ _ _ _ (ap rulePaper (sym (c .enum-told .given .1)) ∙ c .before .before .rule-at .ensures))
 
 pub call-spec : {M : Type 1} → statement M
 call-spec =

@@ -6,7 +6,7 @@ use Prim.Native.Nat.{_-_, _≤_}
 use native.Mathlib.Omega.{arith}
 use lib.Dec.{eqb}
 use borrow.Author.Tests.{not-true, not-false}
-use Rattle.machine.specs.MachineStack.{alikeFrom}
+use Rattle.machine.specs.private.MachineStack.{alikeFrom}
 use Rattle.machine.proofs.Matching.{alike-end, alike-differ, alike-next}
 use borrow.Author.Needs.{needs}
 use Rattle.machine.proofs.machine.matches.Statement.{statement}

@@ -2,15 +2,15 @@
 -- with this stack, goes out as the whole run does. The measure is the number of bytes left.
 -- Assumes nothing.
 use mathlib.Core.Path.{_≡_, _∙_}
+use mathlib.Core.List.{[]}
 use Prim.Native.Nat.{_-_, _≤_}
 use native.Mathlib.Omega.{arith}
 use lib.ListN.{length, drop}
 use borrow.Author.Tests.{not-true, not-false}
 use Rattle.functions.specs.Functions.{listingOf}
-use Rattle.machine.specs.Machine.{runBytesBy}
-use Rattle.machine.specs.TopLast.{stepLast}
-use Rattle.machine.specs.MachineStack.{operandsOf, InBounds}
-use Rattle.machine.proofs.TopLast.{runBytesLast}
+use Rattle.machine.specs.Line.{linesOf}
+use Rattle.machine.specs.private.MachineStack.{operandsOf, InBounds}
+use Rattle.machine.proofs.TopLast.{runLast}
 use Rattle.machine.proofs.Outcomes.{run-starts, run-ended, run-partial, run-stopped, run-next}
 use borrow.Author.Needs.{needs}
 use Rattle.machine.proofs.machine.run_worksheet.Statement.{statement}
@@ -19,7 +19,7 @@ use Rattle.machine.proofs.machine.run_worksheet.Tie as tie
 abbrev Inv-loop : tie.InvT-loop
 Inv-loop sheet stack₀ at₀ line₀ stack at line =
     (at ≤ length sheet) × (line ≤ at) × InBounds stack
-    × (runBytesBy (stepLast listingOf) (drop at sheet) line (operandsOf stack) ≡ runBytesLast listingOf sheet)
+    × (runLast listingOf (linesOf (drop at sheet)) line (operandsOf stack) ≡ runLast listingOf (linesOf sheet) 0 [])
 
 abbrev μ-loop : tie.MeasureT-loop
 μ-loop sheet stack₀ at₀ line₀ stack at line = length sheet - at

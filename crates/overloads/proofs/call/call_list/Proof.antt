@@ -1,9 +1,10 @@
 -- `call_list` meets its contract: the lowest survivor is the chosen rule.
 -- Assumes nothing.
-use mathlib.Core.Path.{sym, _∙_}
+use mathlib.Core.Path.{sym, ap, _∙_}
 use native.Mathlib.Omega.{arith}
 use Rattle.overloads.proofs.ListCalls.{Lowest, lowest-survivor}
 use Rattle.overloads.proofs.Surviving.{survivors-refused}
+use Rattle.overloads.specs.SurvivorsPaper.{survivorsPaper}
 use borrow.Author.Needs.{needs}
 use Rattle.overloads.proofs.call.call_list.Statement.{statement}
 use Rattle.overloads.proofs.call.call_list.Tie as tie
@@ -11,7 +12,7 @@ use Rattle.overloads.proofs.call.call_list.Tie as tie
 -- the lowest survivor, where there are some
 lowest : (c : tie.After-known-told2) → Lowest (c .before .before .before .before .before .args .switch) (c .before .before .before .before .before .args .t1)
     (c .before .before .before .before .before .args .operands .now) (c .before .members .given .0 .0)
-lowest c = lowest-survivor _ _ _ _ (c .before .before .before .before .before .pre) (sym (c .before .before .before .survivors-list .ensures) ∙ c .before .members .given .1)
+lowest c = lowest-survivor _ _ _ _ (c .before .before .before .before .before .pre) (sym (c .before .before .before .survivors-list .ensures) ∙ ap survivorsPaper (c .before .members .given .1))
 
 survivors-list-requires : tie.Need-survivors-list-requires
 survivors-list-requires c κs = c .before .pre
@@ -35,7 +36,7 @@ cast-t17 : tie.Need-cast-t17
 cast-t17 c = omega (arith, lowest (c .before) .below)
 
 returns : tie.Need-returns
-returns c = sym (survivors-refused _ _ _ _ (sym (c .before .before .before .survivors-list .ensures) ∙ c .before .why .given .1))
+returns c = sym (survivors-refused _ _ _ _ _ .0 (sym (c .before .before .before .survivors-list .ensures) ∙ ap survivorsPaper (c .before .why .given .1)))
 
 returns-2 : tie.Need-returns-2
 returns-2 c = lowest (c .before) .is

@@ -1,13 +1,15 @@
 -- `call_regular` meets its contract. The loop's invariant: the masks hold the entries that are left after the operands so far, and the steps
 -- to come are the rest of all steps. Assumes nothing.
-use mathlib.Core.Path.{sym, ap, _∙_, subst}
+use mathlib.Core.Path.{_≡_, sym, ap, _∙_, subst}
 use Prim.Native.Nat.{_+_, _-_}
 use native.Mathlib.Omega.{arith}
-use lib.ListN.{length}
+use lib.ListN.{length, getD}
 use Rattle.scalars.specs.Mask.{bits}
-use Rattle.regular.specs.Regular.{Known, emptySet?}
-use Rattle.overloads.specs.Call.{preferredIn}
+use Rattle.regular.specs.Regular.{emptySet?, narrowed, concreteSet}
+use Rattle.regular.specs.private.Tested.{Known}
+use Rattle.overloads.specs.private.CallSets.{preferredIn}
 use Rattle.regular.specs.declared.regular.Regular.{Regular}
+use Rattle.regular.proofs.SetPapers.{set-one}
 use Rattle.overloads.proofs.RegularCalls.{Reached, regular-wrong, reached-start, reached-out, reached-on, reached-end, reached-concrete, concrete-left}
 use Rattle.overloads.proofs.call.call_regular.Statement.{statement}
 use Rattle.overloads.proofs.call.call_regular.Tie as tie
@@ -17,6 +19,13 @@ Inv-loop set operands switch left₀ i₀ left i = Reached set operands left i
 
 abbrev μ-loop : tie.MeasureT-loop
 μ-loop set operands switch left₀ i₀ left i = length operands - i
+
+-- the sets that the two bare steps answer
+narrowed-is : (c : tie.After-narrow Inv-loop μ-loop) → c .narrow .result ≡ narrowed (getD (c .before .before .before .before .before .before .before .args .operands .now) (c .before .before .before .loop .i) 0) (c .before .before .before .loop .left)
+narrowed-is c = set-one (c .narrow .result) (narrowed _ (c .before .before .before .loop .left)) (c .narrow .ensures)
+
+concrete-is : (c : tie.After-concrete Inv-loop μ-loop) → c .concrete .result ≡ concreteSet (c .before .before .before .loop .left)
+concrete-is c = set-one (c .concrete .result) (concreteSet (c .before .before .before .loop .left)) (c .concrete .ensures)
 
 cast-if1 : tie.Need-cast-if1 Inv-loop μ-loop
 cast-if1 c = omega (arith, c .before .before .pre .known .arity)
@@ -40,7 +49,7 @@ add-t15 : tie.Need-add-t15 Inv-loop μ-loop
 add-t15 c = omega arith
 
 returns-2 : tie.Need-returns-2 Inv-loop μ-loop
-returns-2 c = reached-out _ (c .before .before .before .before .before .before .before .before .before .pre) _ (c .before .before .before .before .before .before .if1 .left) _ _ (c .before .before .before .before .before .loop .inv) _ (c .before .before .before .before .loop-test .taken) (ap emptySet? (sym (c .before .before .narrow .ensures)) ∙ sym (c .before .holds-none .ensures) ∙ c .if2 .taken)
+returns-2 c = reached-out _ (c .before .before .before .before .before .before .before .before .before .pre) _ (c .before .before .before .before .before .before .if1 .left) _ _ (c .before .before .before .before .before .loop .inv) _ (c .before .before .before .before .loop-test .taken) (ap emptySet? (sym (narrowed-is (c .before .before))) ∙ sym (c .before .holds-none .ensures) ∙ c .if2 .taken)
 
 add-i : tie.Need-add-i Inv-loop μ-loop
 add-i c = omega arith
@@ -49,17 +58,17 @@ loop-less : tie.Need-loop-less Inv-loop μ-loop
 loop-less c = omega arith
 
 loop-again : tie.Need-loop-again Inv-loop μ-loop
-loop-again c = subst (λ (x : Regular). Reached (c .before .before .before .before .before .before .before .before .before .args .set) (c .before .before .before .before .before .before .before .before .before .args .operands .now) x (c .before .before .before .before .before .loop .i + 1)) (sym (c .before .before .narrow .ensures))
-    (reached-on _ (c .before .before .before .before .before .before .before .before .before .pre) _ (c .before .before .before .before .before .before .if1 .left) _ _ (c .before .before .before .before .before .loop .inv) (c .before .before .before .before .loop-test .taken) (ap emptySet? (sym (c .before .before .narrow .ensures)) ∙ sym (c .before .holds-none .ensures) ∙ c .if2 .left))
+loop-again c = subst (λ (x : Regular). Reached (c .before .before .before .before .before .before .before .before .before .args .set) (c .before .before .before .before .before .before .before .before .before .args .operands .now) x (c .before .before .before .before .before .loop .i + 1)) (sym (narrowed-is (c .before .before)))
+    (reached-on _ (c .before .before .before .before .before .before .before .before .before .pre) _ (c .before .before .before .before .before .before .if1 .left) _ _ (c .before .before .before .before .before .loop .inv) (c .before .before .before .before .loop-test .taken) (ap emptySet? (sym (narrowed-is (c .before .before))) ∙ sym (c .before .holds-none .ensures) ∙ c .if2 .left))
 
 concrete-requires : tie.Need-concrete-requires Inv-loop μ-loop
 concrete-requires c κs = tt
 
 preferred-requires : tie.Need-preferred-requires Inv-loop μ-loop
-preferred-requires c κs = (c .before .before .before .before .before .before .before .pre .known, subst Known (sym (c .concrete .ensures)) (concrete-left _ (c .before .before .before .before .before .before .before .pre) _ (c .before .before .before .before .if1 .left) _ _ (c .before .before .before .loop .inv) (c .before .before .loop-test .left)))
+preferred-requires c κs = (c .before .before .before .before .before .before .before .pre .known, subst Known (sym (concrete-is c)) (concrete-left _ (c .before .before .before .before .before .before .before .pre) _ (c .before .before .before .before .if1 .left) _ _ (c .before .before .before .loop .inv) (c .before .before .loop-test .left)))
 
 returns-3 : tie.Need-returns-3 Inv-loop μ-loop
-returns-3 c = c .preferred .ensures ∙ ap (λ (x : Regular). preferredIn (c .before .before .before .before .before .before .before .before .args .set) (bits 13 (x .constructors .0)) (bits 12 (x .scalars .0))) (c .before .concrete .ensures)
+returns-3 c = c .preferred .ensures ∙ ap (λ (x : Regular). preferredIn (c .before .before .before .before .before .before .before .before .args .set) (bits 13 (x .constructors .0)) (bits 12 (x .scalars .0))) (concrete-is (c .before))
     ∙ reached-concrete _ (c .before .before .before .before .before .before .before .before .pre) _ (c .before .before .before .before .before .if1 .left) _ _ (c .before .before .before .before .loop .inv) (c .before .before .before .loop-test .left) _ (c .before .before .if3 .taken)
 
 preferred-requires-2 : tie.Need-preferred-requires-2 Inv-loop μ-loop

@@ -1,7 +1,7 @@
 -- `members` meets its contract.
 -- Assumes nothing.
 use borrow.Author.Tests.{eq-eqb, ne-eqb}
-use Rattle.overloads.specs.Call.{maskAnswer}
+use Rattle.overloads.specs.private.CallSets.{maskAnswer}
 use Rattle.overloads.proofs.call.members.Statement.{statement}
 use Rattle.overloads.proofs.call.members.Tie as tie
 

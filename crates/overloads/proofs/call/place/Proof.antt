@@ -4,7 +4,7 @@ use mathlib.Core.Path.{ap, ap₂, _∙_}
 use Prim.Native.Nat.{ℕ, _+_, _*_}
 use native.Mathlib.Omega.{arith}
 use lib.Count.{ones}
-use Rattle.overloads.specs.Call.{placeIn}
+use Rattle.overloads.specs.private.CallSets.{placeIn}
 use Rattle.overloads.proofs.Positions.{place-most, place-is}
 use borrow.Author.Needs.{needs}
 use Rattle.overloads.proofs.call.place.Statement.{statement}

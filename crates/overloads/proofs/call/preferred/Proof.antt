@@ -4,9 +4,10 @@ use mathlib.Core.Path.{sym, ap, ap₂, _∙_}
 use Prim.Native.Nat.{_<_}
 use lib.Count.{trailingZeros}
 use native.Mathlib.Omega.{arith}
-use Rattle.overloads.specs.Call.{indexed}
+use Rattle.overloads.specs.private.CallSets.{indexed}
 use Rattle.regular.proofs.Regulars.{lowest-known}
 use Rattle.overloads.proofs.RegularResolving.{preferred-none, preferred-some}
+use Rattle.rules.specs.RulePaper.{rulePaper}
 use borrow.Author.Needs.{needs}
 use Rattle.overloads.proofs.call.preferred.Statement.{statement}
 use Rattle.overloads.proofs.call.preferred.Tie as tie
@@ -47,10 +48,10 @@ enum-known-rule : tie.Need-enum-known-rule
 enum-known-rule c = search needs
 
 returns-2 : tie.Need-returns-2
-returns-2 c = sym (ap (indexed _) (sym (c .before .before .before .rule-of .ensures) ∙ c .before .why .given .1)) ∙ preferred-some _ _ (c .before .before .before .before .before .before .before .before .before .pre .0) (c .before .before .before .before .before .before .before .before .before .pre .1) (sym (c .before .before .before .before .before .before .before .before .holds-none .ensures) ∙ c .before .before .before .before .before .before .before .if1 .left)
+returns-2 c = sym (ap (indexed _) (sym (c .before .before .before .rule-of .ensures) ∙ ap rulePaper (c .before .why .given .1))) ∙ preferred-some _ _ (c .before .before .before .before .before .before .before .before .before .pre .0) (c .before .before .before .before .before .before .before .before .before .pre .1) (sym (c .before .before .before .before .before .before .before .before .holds-none .ensures) ∙ c .before .before .before .before .before .before .before .if1 .left)
 
 returns-3 : tie.Need-returns-3
-returns-3 c = sym (ap₂ indexed (sym (c .before .before .before .before .place .ensures)) (sym (c .before .before .before .rule-of .ensures) ∙ c .before .rule .given .1)) ∙ preferred-some _ _ (c .before .before .before .before .before .before .before .before .before .pre .0) (c .before .before .before .before .before .before .before .before .before .pre .1) (sym (c .before .before .before .before .before .before .before .before .holds-none .ensures) ∙ c .before .before .before .before .before .before .before .if1 .left)
+returns-3 c = sym (ap₂ indexed (sym (c .before .before .before .before .place .ensures)) (sym (c .before .before .before .rule-of .ensures) ∙ ap rulePaper (c .before .rule .given .1))) ∙ preferred-some _ _ (c .before .before .before .before .before .before .before .before .before .pre .0) (c .before .before .before .before .before .before .before .before .before .pre .1) (sym (c .before .before .before .before .before .before .before .before .holds-none .ensures) ∙ c .before .before .before .before .before .before .before .if1 .left)
 
 pub preferred-spec : {M : Type 1} → statement M
 preferred-spec =

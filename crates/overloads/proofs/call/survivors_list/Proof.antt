@@ -1,7 +1,8 @@
 -- `survivors_list` meets its contract: the longest rule says how many operands there are.
 -- Assumes nothing.
-use mathlib.Core.Path.{sym, _∙_}
+use mathlib.Core.Path.{sym, ap, _∙_}
 use Rattle.overloads.proofs.ListCalls.{survivors-wrong, survivors-right, full-longest, never-refused}
+use Rattle.scalars.specs.Paper.{countPaper}
 use borrow.Author.Needs.{needs}
 use Rattle.overloads.proofs.call.survivors_list.Statement.{statement}
 use Rattle.overloads.proofs.call.survivors_list.Tie as tie
@@ -19,16 +20,16 @@ cast-if1 : tie.Need-cast-if1
 cast-if1 c = search needs
 
 returns : tie.Need-returns
-returns c = survivors-wrong _ _ _ (λ e. c .if1 .taken (e ∙ full-longest _ (c .before .before .before .before .before .before .pre) _ (sym (c .before .before .before .before .longest .ensures) ∙ c .before .before .most .given .1)))
+returns c = survivors-wrong _ _ _ (λ e. c .if1 .taken (e ∙ full-longest _ (c .before .before .before .before .before .before .pre) _ (sym (c .before .before .before .before .longest .ensures) ∙ ap countPaper (c .before .before .most .given .1))))
 
 taken-requires : tie.Need-taken-requires
 taken-requires c κs = c .before .before .before .before .before .before .pre
 
 returns-2 : tie.Need-returns-2
-returns-2 c = absurd (never-refused _ (c .before .before .before .before .before .pre) _ (sym (c .before .before .before .longest .ensures) ∙ c .before .why .given .1))
+returns-2 c = absurd (never-refused _ (c .before .before .before .before .before .pre) _ _ _ (sym (c .before .before .before .longest .ensures) ∙ ap countPaper (c .before .why .given .1)))
 
 returns-3 : tie.Need-returns-3
-returns-3 c = c .taken .ensures ∙ survivors-right _ _ _ (c .before .if1 .left ∙ sym (full-longest _ (c .before .before .before .before .before .before .before .pre) _ (sym (c .before .before .before .before .before .longest .ensures) ∙ c .before .before .before .most .given .1)))
+returns-3 c = c .taken .ensures ∙ survivors-right _ _ _ (c .before .if1 .left ∙ sym (full-longest _ (c .before .before .before .before .before .before .before .pre) _ (sym (c .before .before .before .before .before .longest .ensures) ∙ ap countPaper (c .before .before .before .most .given .1))))
 
 pub survivors-list-spec : {M : Type 1} → statement M
 survivors-list-spec =

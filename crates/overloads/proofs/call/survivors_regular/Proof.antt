@@ -12,13 +12,13 @@ expand-requires : tie.Need-expand-requires
 expand-requires c κs = tt
 
 survivors-list-requires : tie.Need-survivors-list-requires
-survivors-list-requires c κs = expanded-full _ (c .before .before .before .pre .0) (c .before .before .before .pre .1) _ (c .before .expand .ensures) .0
+survivors-list-requires c κs = expanded-full _ (c .before .before .before .pre .0) (c .before .before .before .pre .1) (c .before .expand .result) (c .before .expand .ensures) .0
 
 returns : tie.Need-returns
 returns c =
     c .survivors-list .ensures
     ∙ ap (λ (rs : L.List Signature). survivorsOf (c .before .before .before .before .args .switch) rs (c .before .before .before .before .args .operands .now))
-    (expanded-full _ (c .before .before .before .before .pre .0) (c .before .before .before .before .pre .1) _ (c .before .before .expand .ensures) .1)
+    (expanded-full _ (c .before .before .before .before .pre .0) (c .before .before .before .before .pre .1) (c .before .before .expand .result) (c .before .before .expand .ensures) .1)
 
 pub survivors-regular-spec : {M : Type 1} → statement M
 survivors-regular-spec = tie.close (tie.spec expand-requires survivors-list-requires returns)

@@ -6,6 +6,7 @@ use borrow.Author.Tests.{lt-ltb, le-ltb}
 use Rattle.rules.specs.Signature.{Signature}
 use Rattle.overloads.specs.Choice.{resolve}
 use Rattle.overloads.specs.Call.{callOf, answered}
+use Rattle.functions.proofs.FunctionPapers.{set-told}
 use Rattle.overloads.proofs.FunctionCalls.{callable, regular-listing, full, list-listing, never-unknown}
 use borrow.Author.Needs.{needs}
 use Rattle.overloads.proofs.function_call.call_of.Statement.{statement}
@@ -35,7 +36,7 @@ enum-known-regular : tie.Need-enum-known-regular
 enum-known-regular c = search needs
 
 call-regular-requires : tie.Need-call-regular-requires
-call-regular-requires c κs = callable (c .before .before .before .before .before .before .before .before .args .function) _ (sym (c .before .before .before .function-set .ensures) ∙ c .before .regular .given .1)
+call-regular-requires c κs = callable (c .before .before .before .before .before .before .before .before .args .function) _ (set-told _ _ (c .before .before .before .function-set .ensures) (c .before .regular .given .1))
 
 enum-known-listed : tie.Need-enum-known-listed
 enum-known-listed c = search needs
@@ -47,15 +48,15 @@ call-list-requires : tie.Need-call-list-requires
 call-list-requires c κs = full _ _ (c .list-of .ensures)
 
 returns-3 : tie.Need-returns-3
-returns-3 c = absurd (never-unknown (c .before .before .before .before .before .before .before .args .function) (c .before .before .before .before .before .if1 .left) (sym (c .before .before .function-set .ensures) ∙ c .enum-told .given .1))
+returns-3 c = absurd (never-unknown (c .before .before .before .before .before .before .before .args .function) (c .before .before .before .before .before .if1 .left) (set-told _ _ (c .before .before .function-set .ensures) (c .enum-told .given .1)))
 
 returns-4 : tie.Need-returns-4
 unfolding callOf
-returns-4 c = simp (lt-ltb _ _ (c .before .before .before .before .before .before .before .if1 .left), ← c .before .before .before .before .before .before .first-unknown .ensures, le-ltb _ _ (c .before .before .before .before .before .if2 .left)) (c .call-regular .ensures ∙ ap (λ (rs : List Signature). answered (resolve (c .before .before .before .before .before .before .before .before .before .args .switch) rs (c .before .before .before .before .before .before .before .before .before .args .operands .now))) (sym (regular-listing (c .before .before .before .before .before .before .before .before .before .args .function) _ (sym (c .before .before .before .before .function-set .ensures) ∙ c .before .before .regular .given .1))))
+returns-4 c = simp (lt-ltb _ _ (c .before .before .before .before .before .before .before .if1 .left), ← c .before .before .before .before .before .before .first-unknown .ensures, le-ltb _ _ (c .before .before .before .before .before .if2 .left)) (c .call-regular .ensures ∙ ap (λ (rs : List Signature). answered (resolve (c .before .before .before .before .before .before .before .before .before .args .switch) rs (c .before .before .before .before .before .before .before .before .before .args .operands .now))) (sym (regular-listing (c .before .before .before .before .before .before .before .before .before .args .function) _ (set-told _ _ (c .before .before .before .before .function-set .ensures) (c .before .before .regular .given .1)))))
 
 returns-5 : tie.Need-returns-5
 unfolding callOf
-returns-5 c = simp (lt-ltb _ _ (c .before .before .before .before .before .before .before .before .if1 .left), ← c .before .before .before .before .before .before .before .first-unknown .ensures, le-ltb _ _ (c .before .before .before .before .before .before .if2 .left)) (c .call-list .ensures ∙ ap (λ (rs : List Signature). answered (resolve (c .before .before .before .before .before .before .before .before .before .before .args .switch) rs (c .before .before .before .before .before .before .before .before .before .before .args .operands .now))) (list-listing (c .before .before .before .before .before .before .before .before .before .before .args .function) _ _ (sym (c .before .before .before .before .before .function-set .ensures) ∙ c .before .before .before .listed .given .1) (c .before .list-of .ensures)))
+returns-5 c = simp (lt-ltb _ _ (c .before .before .before .before .before .before .before .before .if1 .left), ← c .before .before .before .before .before .before .before .first-unknown .ensures, le-ltb _ _ (c .before .before .before .before .before .before .if2 .left)) (c .call-list .ensures ∙ ap (λ (rs : List Signature). answered (resolve (c .before .before .before .before .before .before .before .before .before .before .args .switch) rs (c .before .before .before .before .before .before .before .before .before .before .args .operands .now))) (list-listing (c .before .before .before .before .before .before .before .before .before .before .args .function) _ _ (set-told _ _ (c .before .before .before .before .before .function-set .ensures) (c .before .before .before .listed .given .1)) (c .before .list-of .ensures)))
 
 pub call-of-spec : {M : Type 1} → statement M
 call-of-spec =

@@ -11,7 +11,7 @@ use lib.ListN.{length, length-set}
 use lib.Seq.{sets}
 use Rattle.scalars.specs.Mask.{upTo, bits, padded}
 use Rattle.scalars.specs.OneBits.{listed}
-use Rattle.scalars.specs.declared.answer.CountAnswer.the-variants.{Count}
+use Rattle.scalars.specs.Paper.{accepted}
 use Rattle.scalars.proofs.Masks.{Turn}
 use Rattle.scalars.proofs.Bits.{bits-turn, bits-first, bits-length, bits-none}
 use Rattle.scalars.proofs.Fills.{filled, fill-next}
@@ -80,7 +80,7 @@ cast-t12 c = omega (arith, all c, bits-length 16 (c .before .before .args .mask)
 
 returns : tie.Need-returns Inv-loop μ-loop
 unfolding listed
-returns c = ap₂ (λ (n : ℕ) (ns : List ℕ). record { answer = Count n; numbers = ns }) (all c) (sym (ap (sets (c .before .loop .numbers) (c .before .loop .count)) (none c)) ∙ c .before .loop .inv .3)
+returns c = ap₂ (λ (n : ℕ) (ns : List ℕ). accepted (n ∷ ns)) (all c) (sym (ap (sets (c .before .loop .numbers) (c .before .loop .count)) (none c)) ∙ c .before .loop .inv .3)
 
 pub members-of-spec : {M : Type 1} → statement M
 members-of-spec =

@@ -7,7 +7,7 @@ use native.Mathlib.Omega.{arith}
 use borrow.Author.Needs.{needs}
 use lib.ListN.{length}
 use Rattle.worksheet.specs.declared.sheet.Sheet.{Sheet}
-use Rattle.worksheet.specs.Answer.{enoughBytes}
+use Rattle.worksheet.specs.claims.Room.{enoughBytes}
 use Rattle.rules.proofs.Records.{arguments-few}
 use Rattle.worksheet.proofs.Conversions.{Leaves, leave-same, leave-line, leave-none}
 use Rattle.worksheet.proofs.one_call.convert.Statement.{statement}

@@ -13,7 +13,7 @@ there : (c : tie.After-place)
     → (0 < c .place .result) × (c .before .before .before .before .args .from + c .place .result ≤ mostOperands)
 there c =
     let start = c .before .before .before .before in
-    operand-there (start .args .from) (start .args .why) _ _ (c .before .before .before .number .ensures) (c .before .if2 .taken)
+    operand-there (start .args .from) _ _ _ _ (c .before .before .before .number .ensures) (c .before .if2 .taken)
     (start .pre)
     (c .place .ensures)
 
@@ -23,7 +23,7 @@ number-requires c κs = search needs
 returns : tie.Need-returns
 returns c =
     let start = c .before .before .args in
-    at-count (start .at) (start .from) (start .t4) (start .why) _ (c .before .number .ensures) (c .if1 .taken)
+    at-count (start .at) (start .from) (start .t4) _ _ _ (c .before .number .ensures) (c .if1 .taken)
 
 place-requires : tie.Need-place-requires
 place-requires c κs = search needs
@@ -43,13 +43,13 @@ array-read-t10 c = omega (arith, there c .0, there c .1)
 returns-2 : tie.Need-returns-2
 returns-2 c =
     let start = c .before .before .before .before .args in
-    at-operand (start .at) (start .from) (start .t4) (start .why) _ _ (c .before .before .before .number .ensures)
+    at-operand (start .at) (start .from) (start .t4) _ _ _ _ (c .before .before .before .number .ensures)
     (c .before .if2 .taken) (c .place .ensures)
 
 returns-3 : tie.Need-returns-3
 returns-3 c =
     let start = c .before .before .before .args in
-    at-empty (start .at) (start .from) (start .t4) (start .why) _ (c .before .before .number .ensures) (c .before .if1 .left) (c .if2 .left)
+    at-empty (start .at) (start .from) (start .t4) _ _ _ (c .before .before .number .ensures) (c .before .if1 .left) (c .if2 .left)
 
 pub place-spec : {M : Type 1} → statement M
 place-spec =

@@ -1,10 +1,11 @@
 -- `type_call` meets its contract: what `call_of` answers for the operands is what the definition concludes of them, and the lines and
 -- the result are laws of proofs/Calls.antt.
 -- Assumes nothing.
-use mathlib.Core.Path.{_≡_, sym, _∙_}
+use mathlib.Core.Path.{_≡_, sym, ap, _∙_}
 use native.Mathlib.Omega.{arith}
 use borrow.Author.Needs.{needs}
 use lib.ListN.{length}
+use Rattle.lists.specs.ChosenPaper.{chosenPaper}
 use Rattle.machine.specs.Machine.{mostOperands}
 use Rattle.worksheet.proofs.CallFacts.{rule-takes, refusal-within}
 use Rattle.worksheet.proofs.Calls.{part-length, conversion-room, line-room, call-refused, call-ruled}
@@ -35,7 +36,7 @@ enum-known-answer c = search needs
 place-requires : tie.Need-place-requires
 place-requires c κs =
     let start = c .before .before .before .before .before .before .before .before in
-    refusal-within _ _ _ _ _ (sym (c .before .before .before .call-of .ensures) ∙ c .before .answer .given .1)
+    refusal-within _ _ _ _ _ _ (sym (c .before .before .before .call-of .ensures) ∙ ap chosenPaper (c .before .answer .given .1))
     (omega (
       arith,
       part-length (start .args .stack .types) (start .args .stack .top) (start .args .count) (start .pre .enough),
@@ -50,7 +51,8 @@ convert-requires : tie.Need-convert-requires
 convert-requires c κs =
     let start = c .before .before .before .before .before .before .before .before .before in
     conversion-room (start .args .count) _ (start .pre)
-    (rule-takes _ _ _ (sym (c .before .before .before .before .call-of .ensures) ∙ c .before .before .answer2 .given .1))
+    (rule-takes _ _ _ (c .before .before .answer2 .given .0 .0)
+    (sym (c .before .before .before .before .call-of .ensures) ∙ ap chosenPaper (c .before .before .answer2 .given .1)))
 
 line-requires : tie.Need-line-requires
 line-requires c κs =
@@ -65,7 +67,8 @@ push-requires c κs = search needs
 
 returns : tie.Need-returns
 returns c =
-    call-refused _ _ _ _ _ _ _ _ _ (sym (c .before .before .before .before .call-of .ensures) ∙ c .before .before .answer .given .1)
+    call-refused _ _ _ _ _ _ _ _ _ _
+    (sym (c .before .before .before .before .call-of .ensures) ∙ ap chosenPaper (c .before .before .answer .given .1))
     (c .place .ensures)
 
 returns-2 : tie.Need-returns-2
@@ -73,7 +76,7 @@ returns-2 c =
     call-ruled _ _ _ _ _ _ _ (c .before .before .before .before .before .before .answer2 .given .0 .0) _ _ _ _
     (c .before .before .before .convert .ensures) (c .before .before .line .ensures) (c .before .cut .ensures) (c .push .ensures)
     (sym (c .before .before .before .before .before .before .before .before .call-of .ensures)
-    ∙ c .before .before .before .before .before .before .answer2 .given .1)
+    ∙ ap chosenPaper (c .before .before .before .before .before .before .answer2 .given .1))
 
 pub type-call-spec : {M : Type 1} → statement M
 type-call-spec =

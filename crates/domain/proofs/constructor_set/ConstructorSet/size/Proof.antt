@@ -3,10 +3,12 @@
 use mathlib.Core.Path.{sym, ap, _∙_}
 use native.Mathlib.Omega.{arith}
 use lib.Count.{trailing-le}
+use lib.Dec.{lit≤}
 use borrow.Author.Tests.{le-ltb, not-true, not-false}
 use Rattle.scalars.specs.Mask.{bits}
 use Rattle.domain.specs.Constructor.{setSize}
-use Rattle.domain.specs.declared.constructor_set.SizeAnswer.the-variants.{Size}
+use Rattle.scalars.specs.Paper.{accepted}
+use Rattle.scalars.proofs.Masks.{trailing-lt}
 use Rattle.domain.proofs.Constructors.{size-one, size-several}
 use borrow.Author.Needs.{needs}
 use Rattle.domain.proofs.constructor_set.ConstructorSet.size.Statement.{statement}
@@ -30,10 +32,10 @@ cast-k : tie.Need-cast-k
 cast-k c = omega (arith, trailing-le 16 (c .before .before .before .before .args .self .0))
 
 size-of-requires : tie.Need-size-of-requires
-size-of-requires c κs = search needs
+size-of-requires c κs = trailing-lt 13 16 _ (lit≤ tt) (omega arith) (omega arith)
 
 returns-4 : tie.Need-returns-4
-returns-4 c = ap Size (c .size-of .ensures)
+returns-4 c = ap accepted (c .size-of .ensures)
     ∙ sym (size-one _ (omega arith) (omega arith) (sym (c .before .before .is-singleton .ensures) ∙ not-false _ (c .before .if3 .left)))
 
 pub size-spec : {M : Type 1} → statement M

@@ -1,12 +1,10 @@
 -- `ConstructorSet::vecn` meets its contract: the mask of the vectors.
 -- Assumes nothing.
 use mathlib.Core.Path.{refl}
-use Rattle.domain.specs.Constructor.{vecn}
 use Rattle.domain.proofs.constructor_set.ConstructorSet.vecn.Statement.{statement}
 use Rattle.domain.proofs.constructor_set.ConstructorSet.vecn.Tie as tie
 
 returns : tie.Need-returns
-unfolding vecn
 returns c = refl
 
 pub vecn-spec : {M : Type 1} → statement M

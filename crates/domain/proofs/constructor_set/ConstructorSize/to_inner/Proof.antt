@@ -1,6 +1,7 @@
 -- `ConstructorSize::to_inner` meets its contract: the size's constructor, then the code.
 -- Assumes nothing.
-use mathlib.Core.Path.{sym, _∙_}
+use mathlib.Core.Path.{sym, ap, _∙_}
+use Rattle.domain.specs.TypePaper.{constructorPaper}
 use Rattle.domain.specs.Constructor.{innerOf}
 use borrow.Author.Needs.{needs}
 use Rattle.domain.proofs.constructor_set.ConstructorSize.to_inner.Statement.{statement}
@@ -20,11 +21,11 @@ value-code-requires c κs = search needs
 
 returns : tie.Need-returns
 unfolding innerOf
-returns c = rw (sym (c .before .before .before .constructor .ensures) ∙ c .before .why .given .1)
+returns c = rw (sym (c .before .before .before .constructor .ensures) ∙ ap constructorPaper (c .before .why .given .1))
 
 returns-2 : tie.Need-returns-2
 unfolding innerOf
-returns-2 c = rw (sym (c .before .before .before .before .constructor .ensures) ∙ c .before .before .constructor2 .given .1) (c .value-code .ensures)
+returns-2 c = rw (sym (c .before .before .before .before .constructor .ensures) ∙ ap constructorPaper (c .before .before .constructor2 .given .1)) (c .value-code .ensures)
 
 pub to-inner-spec : {M : Type 1} → statement M
 to-inner-spec =

@@ -6,7 +6,7 @@ use lib.ListN.{length}
 use borrow.Author.Needs.{needs}
 use Rattle.lists.specs.List.{listEmpty}
 use Rattle.rules.specs.Verdict.{emptyOf}
-use Rattle.scalars.specs.declared.answer.Test.the-variants.{Refused}
+use mathlib.Core.List.{[], _∷_}
 use Rattle.scalars.proofs.Masks.{mapped-long}
 use Rattle.lists.proofs.Lists.{listing-none}
 use Rattle.lists.proofs.Verdicts.{on-refused, on-accepted, tested-some}
@@ -30,17 +30,17 @@ returns : tie.Need-returns
 unfolding listEmpty
 returns c =
     sym (ap emptyOf (listing-none (c .before .before .before .before .before .args .self) (c .if1 .taken)))
-    ∙ on-accepted _ (c .before .before .before .before .checked .ensures) _ Refused (c .before .before .enum-told .given .1)
+    ∙ on-accepted _ (c .before .before .before .before .checked .result) (c .before .before .before .before .checked .ensures) _ (255 ∷ []) (c .before .before .enum-told .given .1)
 
 returns-2 : tie.Need-returns-2
 unfolding listEmpty
-returns-2 c = on-refused _ (c .before .before .before .checked .ensures) _ Refused (c .before .verdict .given .1)
+returns-2 c = on-refused _ (c .before .before .before .checked .result) (c .before .before .before .checked .ensures) _ (255 ∷ []) (c .before .verdict .given .1)
 
 returns-3 : tie.Need-returns-3
 unfolding listEmpty
 returns-3 c =
-    tested-some (c .before .before .before .before .before .args .self) (c .before .before .before .before .checked .ensures) (c .before .before .enum-told .given .1) (long (c .before .before .before .before .before)) (omega arith)
-    ∙ on-accepted _ (c .before .before .before .before .checked .ensures) _ Refused (c .before .before .enum-told .given .1)
+    tested-some (c .before .before .before .before .before .args .self) (c .before .before .before .before .checked .result) (c .before .before .before .before .checked .ensures) (c .before .before .enum-told .given .1) (long (c .before .before .before .before .before)) (omega arith)
+    ∙ on-accepted _ (c .before .before .before .before .checked .result) (c .before .before .before .before .checked .ensures) _ (255 ∷ []) (c .before .before .enum-told .given .1)
 
 pub is-empty-spec : {M : Type 1} → statement M
 is-empty-spec =

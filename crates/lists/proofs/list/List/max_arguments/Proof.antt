@@ -4,7 +4,7 @@ use lib.ListN.{length}
 use borrow.Author.Needs.{needs}
 use Rattle.lists.specs.List.{listCount}
 use Rattle.rules.specs.Verdict.{countOf}
-use Rattle.scalars.specs.declared.answer.CountAnswer.the-variants.{Refused}
+use mathlib.Core.List.{[], _∷_}
 use Rattle.scalars.proofs.Masks.{mapped-long}
 use Rattle.lists.proofs.Verdicts.{on-refused, on-accepted, tested-listing}
 use Rattle.lists.proofs.list.List.max_arguments.Statement.{statement}
@@ -28,14 +28,14 @@ longest-requires c κs = tt
 
 returns : tie.Need-returns
 unfolding listCount
-returns c = on-refused _ (c .before .before .before .before .checked .ensures) _ Refused (c .before .verdict .given .1)
+returns c = on-refused _ (c .before .before .before .before .checked .result) (c .before .before .before .before .checked .ensures) _ (255 ∷ []) (c .before .verdict .given .1)
 
 returns-2 : tie.Need-returns-2
 unfolding listCount
 returns-2 c =
     c .longest .ensures
-    ∙ ap countOf (tested-listing _ (c .before .before .before .before .checked .ensures) (c .before .enum-told .given .1) (long (c .before .before .before .before .before)))
-    ∙ on-accepted _ (c .before .before .before .before .checked .ensures) _ Refused (c .before .enum-told .given .1)
+    ∙ ap countOf (tested-listing _ (c .before .before .before .before .checked .result) (c .before .before .before .before .checked .ensures) (c .before .enum-told .given .1) (long (c .before .before .before .before .before)))
+    ∙ on-accepted _ (c .before .before .before .before .checked .result) (c .before .before .before .before .checked .ensures) _ (255 ∷ []) (c .before .enum-told .given .1)
 
 pub max-arguments-spec : {M : Type 1} → statement M
 max-arguments-spec =

@@ -4,7 +4,7 @@ use mathlib.Core.Path.{_≡_, ap, _∙_}
 use lib.ListN.{length}
 use borrow.Author.Needs.{needs}
 use Rattle.lists.specs.List.{listPreferred, preferredOf}
-use Rattle.lists.specs.declared.list.ChosenAnswer.the-variants.{Refused}
+use Rattle.lists.specs.ChosenPaper.{noChoice}
 use Rattle.scalars.proofs.Masks.{mapped-long}
 use Rattle.lists.proofs.Verdicts.{on-refused, on-accepted, tested-valid, tested-entries}
 use Rattle.lists.proofs.list.List.most_preferred.Statement.{statement}
@@ -24,18 +24,18 @@ enum-told : tie.Need-enum-told
 enum-told c = search needs
 
 first-requires : tie.Need-first-requires
-first-requires c κs = tested-valid _ (c .before .before .before .checked .ensures) (c .enum-told .given .1) (long (c .before .before .before .before))
+first-requires c κs = tested-valid _ (c .before .before .before .checked .result) (c .before .before .before .checked .ensures) (c .enum-told .given .1) (long (c .before .before .before .before))
 
 returns : tie.Need-returns
 unfolding listPreferred
-returns c = on-refused _ (c .before .before .before .before .checked .ensures) _ Refused (c .before .verdict .given .1)
+returns c = on-refused _ (c .before .before .before .before .checked .result) (c .before .before .before .before .checked .ensures) _ noChoice (c .before .verdict .given .1)
 
 returns-2 : tie.Need-returns-2
 unfolding listPreferred
 returns-2 c =
     c .first .ensures
-    ∙ ap preferredOf (tested-entries _ (c .before .before .before .before .checked .ensures) (c .before .enum-told .given .1) (long (c .before .before .before .before .before)))
-    ∙ on-accepted _ (c .before .before .before .before .checked .ensures) _ Refused (c .before .enum-told .given .1)
+    ∙ ap preferredOf (tested-entries _ (c .before .before .before .before .checked .result) (c .before .before .before .before .checked .ensures) (c .before .enum-told .given .1) (long (c .before .before .before .before .before)))
+    ∙ on-accepted _ (c .before .before .before .before .checked .result) (c .before .before .before .before .checked .ensures) _ noChoice (c .before .enum-told .given .1)
 
 pub most-preferred-spec : {M : Type 1} → statement M
 most-preferred-spec =

@@ -2,7 +2,7 @@
 use mathlib.Core.Path.{_≡_, ap, _∙_}
 use lib.ListN.{length}
 use borrow.Author.Needs.{needs}
-use Rattle.rules.specs.Listing.{acceptedListing, refusedListing}
+use Rattle.rules.specs.Listing.{acceptedListing, noListing}
 use Rattle.lists.specs.List.{listListing}
 use Rattle.scalars.proofs.Masks.{mapped-long}
 use Rattle.lists.proofs.Verdicts.{on-refused, on-accepted, tested-valid, tested-listing}
@@ -26,18 +26,18 @@ enum-told : tie.Need-enum-told
 enum-told c = search needs
 
 listed-requires : tie.Need-listed-requires
-listed-requires c κs = tested-valid _ (c .before .before .before .checked .ensures) (c .enum-told .given .1) (long (c .before .before .before .before))
+listed-requires c κs = tested-valid _ (c .before .before .before .checked .result) (c .before .before .before .checked .ensures) (c .enum-told .given .1) (long (c .before .before .before .before))
 
 returns : tie.Need-returns
 unfolding listListing
-returns c = c .no-listing .ensures ∙ on-refused _ (c .before .before .before .before .before .checked .ensures) _ refusedListing (c .before .before .verdict .given .1)
+returns c = c .no-listing .ensures ∙ on-refused _ (c .before .before .before .before .before .checked .result) (c .before .before .before .before .before .checked .ensures) _ noListing (c .before .before .verdict .given .1)
 
 returns-2 : tie.Need-returns-2
 unfolding listListing
 returns-2 c =
     c .listed .ensures
-    ∙ ap acceptedListing (tested-listing _ (c .before .before .before .before .checked .ensures) (c .before .enum-told .given .1) (long (c .before .before .before .before .before)))
-    ∙ on-accepted _ (c .before .before .before .before .checked .ensures) _ refusedListing (c .before .enum-told .given .1)
+    ∙ ap acceptedListing (tested-listing _ (c .before .before .before .before .checked .result) (c .before .before .before .before .checked .ensures) (c .before .enum-told .given .1) (long (c .before .before .before .before .before)))
+    ∙ on-accepted _ (c .before .before .before .before .checked .result) (c .before .before .before .before .checked .ensures) _ noListing (c .before .enum-told .given .1)
 
 pub overload-list-spec : {M : Type 1} → statement M
 overload-list-spec =

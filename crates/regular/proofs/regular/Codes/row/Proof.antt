@@ -9,7 +9,7 @@ use lib.Dec.{lit≤}
 use lib.ListN.{length, length-set, length-map}
 use lib.Seq.{sets}
 use Rattle.scalars.specs.Mask.{upTo, bits}
-use Rattle.regular.specs.Regular.{put}
+use Rattle.regular.specs.private.Tested.{put}
 use Rattle.scalars.proofs.Masks.{Turn, trailing-lt}
 use Rattle.scalars.proofs.Bits.{bits-turn, bits-first, bits-none}
 use Rattle.scalars.proofs.Fills.{fill-next}

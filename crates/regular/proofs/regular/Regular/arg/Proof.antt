@@ -3,7 +3,7 @@
 use mathlib.Core.Path.{sym, ap, _∙_}
 use borrow.Author.Tests.{le-ltb, lt-ltb, le-leb, lt-leb}
 use Rattle.regular.specs.Regular.{regularArg}
-use Rattle.regular.specs.declared.regular.RegularAnswer.the-variants.{Set}
+use Rattle.scalars.specs.Paper.{verdictPaper}
 use borrow.Author.Needs.{needs}
 use Rattle.regular.proofs.regular.Regular.arg.Statement.{statement}
 use Rattle.regular.proofs.regular.Regular.arg.Tie as tie
@@ -20,7 +20,7 @@ enum-known-why c = search needs
 
 returns-2 : tie.Need-returns-2
 unfolding regularArg
-returns-2 c = simp (le-leb _ _ (c .before .before .before .before .if1 .left), sym (c .before .before .before .verdict .ensures) ∙ c .before .why .given .1)
+returns-2 c = simp (le-leb _ _ (c .before .before .before .before .if1 .left), sym (c .before .before .before .verdict .ensures) ∙ ap verdictPaper (c .before .why .given .1))
 
 enum-told : tie.Need-enum-told
 enum-told c = search needs
@@ -30,14 +30,14 @@ cast-if2 c = search needs
 
 returns-3 : tie.Need-returns-3
 unfolding regularArg
-returns-3 c = simp (le-leb _ _ (c .before .before .before .before .before .if1 .left), sym (c .before .before .before .before .verdict .ensures) ∙ c .before .before .enum-told .given .1, le-ltb _ _ (c .if2 .taken))
+returns-3 c = simp (le-leb _ _ (c .before .before .before .before .before .if1 .left), sym (c .before .before .before .before .verdict .ensures) ∙ ap verdictPaper (c .before .before .enum-told .given .1), le-ltb _ _ (c .if2 .taken))
 
 narrow-requires : tie.Need-narrow-requires
 narrow-requires c κs = search needs
 
 returns-4 : tie.Need-returns-4
 unfolding regularArg
-returns-4 c = simp (le-leb _ _ (c .before .before .before .before .before .before .if1 .left), sym (c .before .before .before .before .before .verdict .ensures) ∙ c .before .before .before .enum-told .given .1, lt-ltb _ _ (c .before .if2 .left)) (ap Set (c .narrow .ensures))
+returns-4 c = simp (le-leb _ _ (c .before .before .before .before .before .before .if1 .left), sym (c .before .before .before .before .before .verdict .ensures) ∙ ap verdictPaper (c .before .before .before .enum-told .given .1), lt-ltb _ _ (c .before .if2 .left)) (c .narrow .ensures)
 
 pub arg-spec : {M : Type 1} → statement M
 arg-spec =

@@ -8,7 +8,8 @@ use lib.Count.{trailingZeros}
 use lib.Dec.{lit≤}
 use lib.ListN.{length, length-replicate, length-append, length-map}
 use Rattle.scalars.specs.Mask.{upTo, bits}
-use Rattle.regular.specs.Regular.{pairs, codesOf, codesFound, put}
+use Rattle.regular.specs.Regular.{pairs, codesOf}
+use Rattle.regular.specs.private.Tested.{codesFound, put}
 use Rattle.regular.specs.declared.regular.Codes.{Codes}
 use Rattle.scalars.proofs.Masks.{Turn, trailing-lt}
 use Rattle.scalars.proofs.Bits.{bits-turn, bits-first, bits-none}

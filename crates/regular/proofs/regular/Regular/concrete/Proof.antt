@@ -2,6 +2,7 @@
 -- Assumes nothing.
 use mathlib.Core.Path.{ap}
 use Prim.Native.Nat.{ℕ}
+use Rattle.regular.specs.SetPaper.{setPaper}
 use Rattle.regular.specs.Regular.{concreteSet}
 use borrow.Author.Needs.{needs}
 use Rattle.regular.proofs.regular.Regular.concrete.Statement.{statement}
@@ -12,7 +13,7 @@ meet-requires c κs = search needs
 
 returns : tie.Need-returns
 unfolding concreteSet
-returns c = ap (λ (b : ℕ). record { arity = c .before .before .args .self .arity; constructors = c .before .before .args .self .constructors; scalars = record { 0 = b }; conclude = c .before .before .args .self .conclude }) (c .meet .ensures)
+returns c = ap (λ (b : ℕ). setPaper (record { arity = c .before .before .args .self .arity; constructors = c .before .before .args .self .constructors; scalars = record { 0 = b }; conclude = c .before .before .args .self .conclude })) (c .meet .ensures)
 
 pub concrete-spec : {M : Type 1} → statement M
 concrete-spec = tie.close (tie.spec meet-requires returns)

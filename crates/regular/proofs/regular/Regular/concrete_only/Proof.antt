@@ -2,7 +2,7 @@
 -- Assumes nothing.
 use mathlib.Core.Path.{sym, ap, _∙_}
 use Rattle.regular.specs.Regular.{regularConcrete}
-use Rattle.regular.specs.declared.regular.RegularAnswer.the-variants.{Set}
+use Rattle.scalars.specs.Paper.{verdictPaper}
 use borrow.Author.Needs.{needs}
 use Rattle.regular.proofs.regular.Regular.concrete_only.Statement.{statement}
 use Rattle.regular.proofs.regular.Regular.concrete_only.Tie as tie
@@ -15,7 +15,7 @@ enum-known-why c = search needs
 
 returns : tie.Need-returns
 unfolding regularConcrete
-returns c = rw (sym (c .before .before .before .verdict .ensures) ∙ c .before .why .given .1)
+returns c = rw (sym (c .before .before .before .verdict .ensures) ∙ ap verdictPaper (c .before .why .given .1))
 
 enum-told : tie.Need-enum-told
 enum-told c = search needs
@@ -25,7 +25,7 @@ concrete-requires c κs = search needs
 
 returns-2 : tie.Need-returns-2
 unfolding regularConcrete
-returns-2 c = rw (sym (c .before .before .before .verdict .ensures) ∙ c .before .enum-told .given .1) (ap Set (c .concrete .ensures))
+returns-2 c = rw (sym (c .before .before .before .verdict .ensures) ∙ ap verdictPaper (c .before .enum-told .given .1)) (c .concrete .ensures)
 
 pub concrete-only-spec : {M : Type 1} → statement M
 concrete-only-spec =

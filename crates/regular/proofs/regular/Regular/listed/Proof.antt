@@ -9,8 +9,10 @@ use lib.ListN.{length, getD, drop, set, length-replicate, length-set}
 use lib.Seq.{sets}
 use Rattle.scalars.specs.Mask.{every, padded}
 use Rattle.rules.specs.Rule.{blankRule, ruleOf}
-use Rattle.rules.specs.Listing.{refusedListing}
-use Rattle.regular.specs.Regular.{codesOf, regularRules, signatureFor, concludes, allConclude, ruleFor}
+use Rattle.rules.specs.RulePaper.{rulePaper}
+use Rattle.rules.specs.Listing.{noListing}
+use Rattle.regular.specs.Regular.{codesOf, regularRules, signatureFor, allConclude, ruleFor}
+use Rattle.regular.proofs.RegularRules.{concludes}
 use Rattle.regular.specs.declared.regular.Regular.{Regular}
 use Rattle.rules.specs.declared.rule.Rule.{Rule}
 use Rattle.regular.proofs.Conclusions.{code-below, rule-refused, rule-concluded}
@@ -39,11 +41,11 @@ read : (c : tie.In-loop Inv-loop μ-loop) → getD (c .before .before .before .b
 read c = found-at (c .before .before .before .before .before .args .self) (c .before .before .before .before .codes .ensures) (c .before .loop .k) (there c)
 
 -- what is asked of the rule of the type that was read
-asked : (c : tie.After-rule Inv-loop μ-loop) → ruleFor (c .before .before .before .before .before .before .args .self) (getD (codesOf (c .before .before .before .before .before .before .args .self)) (c .before .before .loop .k) 0) ≡ c .rule .result
+asked : (c : tie.After-rule Inv-loop μ-loop) → ruleFor (c .before .before .before .before .before .before .args .self) (getD (codesOf (c .before .before .before .before .before .before .args .self)) (c .before .before .loop .k) 0) ≡ rulePaper (c .rule .result)
 asked c = sym (c .rule .ensures ∙ ap (ruleFor (c .before .before .before .before .before .before .args .self)) (read (c .before)))
 
 made : (c : tie.After-rule2 Inv-loop μ-loop) → (c .rule2 .given .0 .0 ≡ ruleOf (signatureFor (c .before .before .before .before .before .before .before .before .args .self) (getD (codesOf (c .before .before .before .before .before .before .before .before .args .self)) (c .before .before .before .before .loop .k) 0))) × (concludes (c .before .before .before .before .before .before .before .before .args .self) (getD (codesOf (c .before .before .before .before .before .before .before .before .args .self)) (c .before .before .before .before .loop .k) 0) ≡ true)
-made c = rule-concluded (c .before .before .before .before .before .before .before .before .args .self) (getD (codesOf (c .before .before .before .before .before .before .before .before .args .self)) (c .before .before .before .before .loop .k) 0) _ (asked (c .before .before) ∙ c .rule2 .given .1)
+made c = rule-concluded (c .before .before .before .before .before .before .before .before .args .self) (getD (codesOf (c .before .before .before .before .before .before .before .before .args .self)) (c .before .before .before .before .loop .k) 0) _ (asked (c .before .before) ∙ ap rulePaper (c .rule2 .given .1))
 
 whole : (r : Regular) → every (concludes r) (codesOf r) ≡ allConclude r
 unfolding allConclude
@@ -65,8 +67,8 @@ no-listing-requires : tie.Need-no-listing-requires Inv-loop μ-loop
 no-listing-requires c κs = tt
 
 returns : tie.Need-returns Inv-loop μ-loop
-returns c = c .no-listing .ensures ∙ ap refusedListing (rule-refused (c .before .before .before .before .before .before .before .before .before .before .args .self) _ (code-below (c .before .before .before .before .before .before .before .before .before .before .args .self) (c .before .before .before .before .before .before .loop .k) (there (c .before .before .before .before .before))) _ (asked (c .before .before .before .before) ∙ c .before .before .why .given .1) .0)
-    ∙ concludes-not (c .before .before .before .before .before .before .before .before .before .before .args .self) (c .before .before .before .before .before .before .loop .k) (there (c .before .before .before .before .before)) (rule-refused (c .before .before .before .before .before .before .before .before .before .before .args .self) _ (code-below (c .before .before .before .before .before .before .before .before .before .before .args .self) (c .before .before .before .before .before .before .loop .k) (there (c .before .before .before .before .before))) _ (asked (c .before .before .before .before) ∙ c .before .before .why .given .1) .1) (c .before .before .before .before .before .before .loop .inv .2)
+returns c = c .no-listing .ensures ∙ (rule-refused (c .before .before .before .before .before .before .before .before .before .before .args .self) _ (code-below (c .before .before .before .before .before .before .before .before .before .before .args .self) (c .before .before .before .before .before .before .loop .k) (there (c .before .before .before .before .before))) (c .before .before .why .given .0 .0) (asked (c .before .before .before .before) ∙ ap rulePaper (c .before .before .why .given .1)) .0 noListing)
+    ∙ concludes-not (c .before .before .before .before .before .before .before .before .before .before .args .self) (c .before .before .before .before .before .before .loop .k) (there (c .before .before .before .before .before)) (rule-refused (c .before .before .before .before .before .before .before .before .before .before .args .self) _ (code-below (c .before .before .before .before .before .before .before .before .before .before .args .self) (c .before .before .before .before .before .before .loop .k) (there (c .before .before .before .before .before))) (c .before .before .why .given .0 .0) (asked (c .before .before .before .before) ∙ ap rulePaper (c .before .before .why .given .1)) .1) (c .before .before .before .before .before .before .loop .inv .2)
 
 enum-known-rule : tie.Need-enum-known-rule Inv-loop μ-loop
 enum-known-rule c = search needs

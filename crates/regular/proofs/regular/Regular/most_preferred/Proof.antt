@@ -1,18 +1,20 @@
 -- `Regular::most_preferred` meets its contract: of one constructor, the lowest scalar's rule.
 -- Assumes nothing.
-use mathlib.Core.Path.{sym, _∙_}
+use mathlib.Core.Path.{sym, ap, _∙_}
 use Prim.Native.Nat.{_<_}
 use native.Mathlib.Omega.{arith}
 use lib.Count.{trailingZeros}
 use borrow.Author.Tests.{not-true, not-false}
-use Rattle.regular.specs.Regular.{Known, regularPreferred}
+use Rattle.regular.specs.Regular.{regularPreferred}
+use Rattle.regular.specs.private.Tested.{Known}
 use Rattle.regular.proofs.Regulars.{accepted-known, preferred-none, preferred-one, preferred-several, lowest-known, lowestCode}
+use Rattle.scalars.specs.Paper.{verdictPaper}
 use borrow.Author.Needs.{needs}
 use Rattle.regular.proofs.regular.Regular.most_preferred.Statement.{statement}
 use Rattle.regular.proofs.regular.Regular.most_preferred.Tie as tie
 
 known : (c : tie.Else2) → Known (c .before .before .before .before .before .before .before .args .self)
-known c = accepted-known (c .before .before .before .before .before .before .before .args .self) (sym (c .before .before .before .before .before .before .verdict .ensures) ∙ c .before .before .before .before .enum-told .given .1)
+known c = accepted-known (c .before .before .before .before .before .before .before .args .self) (sym (c .before .before .before .before .before .before .verdict .ensures) ∙ ap verdictPaper (c .before .before .before .before .enum-told .given .1))
 
 -- where the masks are not empty, their lowest bits are known
 lowest : (c : tie.Else2) → (trailingZeros 16 (c .before .before .before .before .before .before .before .args .self .constructors .0) < 13) × (trailingZeros 16 (c .before .before .before .before .before .before .before .args .self .scalars .0) < 12)
@@ -26,7 +28,7 @@ enum-known-why c = search needs
 
 returns : tie.Need-returns
 unfolding regularPreferred
-returns c = rw (sym (c .before .before .before .verdict .ensures) ∙ c .before .why .given .1)
+returns c = rw (sym (c .before .before .before .verdict .ensures) ∙ ap verdictPaper (c .before .why .given .1))
 
 enum-told : tie.Need-enum-told
 enum-told c = search needs
@@ -36,14 +38,14 @@ holds-none-requires c κs = search needs
 
 returns-2 : tie.Need-returns-2
 unfolding regularPreferred
-returns-2 c = rw (sym (c .before .before .before .before .verdict .ensures) ∙ c .before .before .enum-told .given .1) (preferred-none (c .before .before .before .before .before .args .self) (sym (c .before .holds-none .ensures) ∙ c .if1 .taken))
+returns-2 c = rw (sym (c .before .before .before .before .verdict .ensures) ∙ ap verdictPaper (c .before .before .enum-told .given .1)) (preferred-none (c .before .before .before .before .before .args .self) (sym (c .before .holds-none .ensures) ∙ c .if1 .taken))
 
 is-singleton-requires : tie.Need-is-singleton-requires
 is-singleton-requires c κs = search needs
 
 returns-3 : tie.Need-returns-3
 unfolding regularPreferred
-returns-3 c = rw (sym (c .before .before .before .before .before .before .verdict .ensures) ∙ c .before .before .before .before .enum-told .given .1) (preferred-several (c .before .before .before .before .before .before .before .args .self) (accepted-known (c .before .before .before .before .before .before .before .args .self) (sym (c .before .before .before .before .before .before .verdict .ensures) ∙ c .before .before .before .before .enum-told .given .1)) (sym (c .before .before .before .holds-none .ensures) ∙ c .before .before .if1 .left) (sym (c .before .is-singleton .ensures) ∙ not-true _ (c .if2 .taken)))
+returns-3 c = rw (sym (c .before .before .before .before .before .before .verdict .ensures) ∙ ap verdictPaper (c .before .before .before .before .enum-told .given .1)) (preferred-several (c .before .before .before .before .before .before .before .args .self) (accepted-known (c .before .before .before .before .before .before .before .args .self) (sym (c .before .before .before .before .before .before .verdict .ensures) ∙ ap verdictPaper (c .before .before .before .before .enum-told .given .1))) (sym (c .before .before .before .holds-none .ensures) ∙ c .before .before .if1 .left) (sym (c .before .is-singleton .ensures) ∙ not-true _ (c .if2 .taken)))
 
 cast-k : tie.Need-cast-k
 cast-k c = omega (arith, lowest (c .before) .0)
@@ -62,7 +64,7 @@ rule-requires c κs = (known (c .before .before) .arity, omega (arith, lowest (c
 
 returns-4 : tie.Need-returns-4
 unfolding regularPreferred lowestCode
-returns-4 c = rw (sym (c .before .before .before .before .before .before .before .before .before .verdict .ensures) ∙ c .before .before .before .before .before .before .before .enum-told .given .1) (c .rule .ensures ∙ preferred-one (c .before .before .before .before .before .before .before .before .before .before .args .self) (accepted-known (c .before .before .before .before .before .before .before .before .before .before .args .self) (sym (c .before .before .before .before .before .before .before .before .before .verdict .ensures) ∙ c .before .before .before .before .before .before .before .enum-told .given .1)) (sym (c .before .before .before .before .before .before .holds-none .ensures) ∙ c .before .before .before .before .before .if1 .left) (sym (c .before .before .before .before .is-singleton .ensures) ∙ not-false _ (c .before .before .before .if2 .left)))
+returns-4 c = rw (sym (c .before .before .before .before .before .before .before .before .before .verdict .ensures) ∙ ap verdictPaper (c .before .before .before .before .before .before .before .enum-told .given .1)) (c .rule .ensures ∙ preferred-one (c .before .before .before .before .before .before .before .before .before .before .args .self) (accepted-known (c .before .before .before .before .before .before .before .before .before .before .args .self) (sym (c .before .before .before .before .before .before .before .before .before .verdict .ensures) ∙ ap verdictPaper (c .before .before .before .before .before .before .before .enum-told .given .1))) (sym (c .before .before .before .before .before .before .holds-none .ensures) ∙ c .before .before .before .before .before .if1 .left) (sym (c .before .before .before .before .is-singleton .ensures) ∙ not-false _ (c .before .before .before .if2 .left)))
 
 pub most-preferred-spec : {M : Type 1} → statement M
 most-preferred-spec =

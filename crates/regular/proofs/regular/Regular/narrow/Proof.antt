@@ -3,6 +3,7 @@
 use mathlib.Core.Path.{ap, ap₂, _∙_}
 use Prim.Native.Nat.{ℕ}
 use lib.Bits.{bitAnd}
+use Rattle.regular.specs.SetPaper.{setPaper}
 use Rattle.regular.specs.Regular.{narrowed}
 use borrow.Author.Needs.{needs}
 use Rattle.regular.proofs.regular.Regular.narrow.Statement.{statement}
@@ -22,7 +23,7 @@ meet-requires-2 c κs = search needs
 
 returns : tie.Need-returns
 unfolding narrowed
-returns c = ap₂ (λ (a b : ℕ). record { arity = c .before .before .before .before .args .self .arity; constructors = record { 0 = a }; scalars = record { 0 = b }; conclude = c .before .before .before .before .args .self .conclude })
+returns c = ap₂ (λ (a b : ℕ). setPaper (record { arity = c .before .before .before .before .args .self .arity; constructors = record { 0 = a }; scalars = record { 0 = b }; conclude = c .before .before .before .before .args .self .conclude }))
     (c .before .before .meet .ensures ∙ ap (bitAnd (c .before .before .before .before .args .self .constructors .0)) (c .before .before .before .singleton .ensures))
     (c .meet2 .ensures ∙ ap (bitAnd (c .before .before .before .before .args .self .scalars .0)) (c .before .reached-scalars .ensures))
 

@@ -3,7 +3,9 @@
 use mathlib.Core.Path.{sym, ap, _∙_}
 use borrow.Author.Tests.{le-leb, lt-leb, not-true, not-false}
 use Rattle.rules.specs.Rule.{checkedRule, shortRule}
-use Rattle.rules.specs.declared.rule.RuleAnswer.the-variants.{Rule}
+use Rattle.scalars.specs.Paper.{accepted}
+use Rattle.rules.specs.RulePaper.{ruleValues}
+use Rattle.rules.specs.declared.rule.Rule.{Rule}
 use borrow.Author.Needs.{needs}
 use Rattle.rules.proofs.rule.Rule.checked.Statement.{statement}
 use Rattle.rules.proofs.rule.Rule.checked.Tie as tie
@@ -24,7 +26,7 @@ cleaned-requires c κs = search needs
 
 returns-3 : tie.Need-returns-3
 unfolding checkedRule shortRule
-returns-3 c = simp (sym (c .before .before .before .before .known .ensures) ∙ not-false _ (c .before .before .before .if1 .left), le-leb _ _ (c .before .if2 .left)) (ap Rule (c .cleaned .ensures))
+returns-3 c = simp (sym (c .before .before .before .before .known .ensures) ∙ not-false _ (c .before .before .before .if1 .left), le-leb _ _ (c .before .if2 .left)) (ap (λ (r : Rule). accepted (ruleValues r)) (c .cleaned .ensures))
 
 pub checked-spec : {M : Type 1} → statement M
 checked-spec = tie.close (tie.spec known-requires returns returns-2 cleaned-requires returns-3)

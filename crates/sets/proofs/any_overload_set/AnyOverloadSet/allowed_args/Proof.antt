@@ -1,7 +1,6 @@
 -- `AnyOverloadSet::allowed_args` meets its contract: each kind by its own function.
 -- Assumes nothing.
 use mathlib.Core.Path.{ap, _∙_}
-use Rattle.sets.specs.AnyOverloadSet.{anyAllowed}
 use Rattle.lists.specs.List.{listAllowed}
 use borrow.Author.Needs.{needs}
 use Rattle.sets.proofs.any_overload_set.AnyOverloadSet.allowed_args.Statement.{statement}
@@ -23,11 +22,9 @@ allowed-args-requires-2 : tie.Need-allowed-args-requires-2
 allowed-args-requires-2 c κs = search needs
 
 returns : tie.Need-returns
-unfolding anyAllowed
 returns c = rw (c .before .before .kind .given .1) (c .allowed-args .ensures)
 
 returns-2 : tie.Need-returns-2
-unfolding anyAllowed
 returns-2 c = rw (c .before .before .before .kind2 .given .1) (c .allowed-args2 .ensures ∙ ap (listAllowed (c .before .before .before .before .before .before .args .i)) (c .before .list-of .ensures))
 
 pub allowed-args-spec : {M : Type 1} → statement M

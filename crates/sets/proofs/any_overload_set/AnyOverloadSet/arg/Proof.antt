@@ -1,7 +1,7 @@
 -- `AnyOverloadSet::arg` meets its contract: each kind by its own function.
 -- Assumes nothing.
 use mathlib.Core.Path.{ap, _∙_}
-use Rattle.sets.specs.AnyOverloadSet.{anyArg, anyRegular, anyList}
+use Rattle.sets.specs.AnyOverloadSet.{ofRegular, ofList}
 use Rattle.lists.specs.List.{listArg}
 use borrow.Author.Needs.{needs}
 use Rattle.sets.proofs.any_overload_set.AnyOverloadSet.arg.Statement.{statement}
@@ -29,12 +29,10 @@ list-answer-requires : tie.Need-list-answer-requires
 list-answer-requires c κs = search needs
 
 returns : tie.Need-returns
-unfolding anyArg
-returns c = rw (c .before .before .before .kind .given .1) (c .regular-answer .ensures ∙ ap anyRegular (c .before .arg .ensures))
+returns c = rw (c .before .before .before .kind .given .1) (c .regular-answer .ensures ∙ ap ofRegular (c .before .arg .ensures))
 
 returns-2 : tie.Need-returns-2
-unfolding anyArg
-returns-2 c = rw (c .before .before .before .before .kind2 .given .1) (c .list-answer .ensures ∙ ap anyList (c .before .arg2 .ensures ∙ ap (listArg (c .before .before .before .before .before .before .before .args .i) (c .before .before .before .before .before .before .before .args .t)) (c .before .before .list-of .ensures)))
+returns-2 c = rw (c .before .before .before .before .kind2 .given .1) (c .list-answer .ensures ∙ ap ofList (c .before .arg2 .ensures ∙ ap (listArg (c .before .before .before .before .before .before .before .args .i) (c .before .before .before .before .before .before .before .args .t)) (c .before .before .list-of .ensures)))
 
 pub arg-spec : {M : Type 1} → statement M
 arg-spec =

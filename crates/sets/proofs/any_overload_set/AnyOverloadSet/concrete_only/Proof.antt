@@ -1,7 +1,7 @@
 -- `AnyOverloadSet::concrete_only` meets its contract: each kind by its own function.
 -- Assumes nothing.
 use mathlib.Core.Path.{ap, _∙_}
-use Rattle.sets.specs.AnyOverloadSet.{anyConcrete, anyRegular, anyList}
+use Rattle.sets.specs.AnyOverloadSet.{ofRegular, ofList}
 use Rattle.lists.specs.List.{listStep}
 use Rattle.rules.specs.declared.rule.Keep.the-variants.{Concrete}
 use borrow.Author.Needs.{needs}
@@ -30,12 +30,10 @@ list-answer-requires : tie.Need-list-answer-requires
 list-answer-requires c κs = search needs
 
 returns : tie.Need-returns
-unfolding anyConcrete
-returns c = rw (c .before .before .before .kind .given .1) (c .regular-answer .ensures ∙ ap anyRegular (c .before .concrete-only .ensures))
+returns c = rw (c .before .before .before .kind .given .1) (c .regular-answer .ensures ∙ ap ofRegular (c .before .concrete-only .ensures))
 
 returns-2 : tie.Need-returns-2
-unfolding anyConcrete
-returns-2 c = rw (c .before .before .before .before .kind2 .given .1) (c .list-answer .ensures ∙ ap anyList (c .before .concrete-only2 .ensures ∙ ap (listStep Concrete) (c .before .before .list-of .ensures)))
+returns-2 c = rw (c .before .before .before .before .kind2 .given .1) (c .list-answer .ensures ∙ ap ofList (c .before .concrete-only2 .ensures ∙ ap (listStep Concrete) (c .before .before .list-of .ensures)))
 
 pub concrete-only-spec : {M : Type 1} → statement M
 concrete-only-spec =

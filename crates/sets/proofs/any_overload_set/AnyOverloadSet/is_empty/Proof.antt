@@ -1,7 +1,6 @@
 -- `AnyOverloadSet::is_empty` meets its contract: each kind by its own function.
 -- Assumes nothing.
 use mathlib.Core.Path.{ap, _∙_}
-use Rattle.sets.specs.AnyOverloadSet.{anyEmpty}
 use Rattle.lists.specs.List.{listEmpty}
 use borrow.Author.Needs.{needs}
 use Rattle.sets.proofs.any_overload_set.AnyOverloadSet.is_empty.Statement.{statement}
@@ -23,11 +22,9 @@ is-empty-requires-2 : tie.Need-is-empty-requires-2
 is-empty-requires-2 c κs = search needs
 
 returns : tie.Need-returns
-unfolding anyEmpty
 returns c = rw (c .before .before .kind .given .1) (c .is-empty .ensures)
 
 returns-2 : tie.Need-returns-2
-unfolding anyEmpty
 returns-2 c = rw (c .before .before .before .kind2 .given .1) (c .is-empty2 .ensures ∙ ap listEmpty (c .before .list-of .ensures))
 
 pub is-empty-spec : {M : Type 1} → statement M

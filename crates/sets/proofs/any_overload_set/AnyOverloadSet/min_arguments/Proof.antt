@@ -1,7 +1,6 @@
 -- `AnyOverloadSet::min_arguments` meets its contract: each kind by its own function.
 -- Assumes nothing.
 use mathlib.Core.Path.{ap, _∙_}
-use Rattle.sets.specs.AnyOverloadSet.{anyCount}
 use Rattle.lists.specs.List.{listCount}
 use borrow.Author.Needs.{needs}
 use Rattle.sets.proofs.any_overload_set.AnyOverloadSet.min_arguments.Statement.{statement}
@@ -23,11 +22,9 @@ min-arguments-requires-2 : tie.Need-min-arguments-requires-2
 min-arguments-requires-2 c κs = search needs
 
 returns : tie.Need-returns
-unfolding anyCount
 returns c = rw (c .before .before .kind .given .1) (c .min-arguments .ensures)
 
 returns-2 : tie.Need-returns-2
-unfolding anyCount
 returns-2 c = rw (c .before .before .before .kind2 .given .1) (c .min-arguments2 .ensures ∙ ap listCount (c .before .list-of .ensures))
 
 pub min-arguments-spec : {M : Type 1} → statement M

@@ -1,7 +1,7 @@
 -- `AnyOverloadSet::most_preferred` meets its contract: each kind by its own function.
 -- Assumes nothing.
 use mathlib.Core.Path.{ap, _∙_}
-use Rattle.sets.specs.AnyOverloadSet.{anyPreferred, alone}
+use Rattle.sets.specs.AnyOverloadSet.{alone}
 use Rattle.lists.specs.List.{listPreferred}
 use borrow.Author.Needs.{needs}
 use Rattle.sets.proofs.any_overload_set.AnyOverloadSet.most_preferred.Statement.{statement}
@@ -26,11 +26,9 @@ rule-alone-requires : tie.Need-rule-alone-requires
 rule-alone-requires c κs = search needs
 
 returns : tie.Need-returns
-unfolding anyPreferred
 returns c = rw (c .before .before .kind .given .1) (c .most-preferred .ensures)
 
 returns-2 : tie.Need-returns-2
-unfolding anyPreferred
 returns-2 c = rw (c .before .before .before .before .kind2 .given .1) (c .rule-alone .ensures ∙ ap alone (c .before .most-preferred2 .ensures ∙ ap listPreferred (c .before .before .list-of .ensures)))
 
 pub most-preferred-spec : {M : Type 1} → statement M

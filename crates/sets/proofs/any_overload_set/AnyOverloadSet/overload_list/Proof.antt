@@ -1,7 +1,6 @@
 -- `AnyOverloadSet::overload_list` meets its contract: each kind by its own function.
 -- Assumes nothing.
 use mathlib.Core.Path.{ap, _∙_}
-use Rattle.sets.specs.AnyOverloadSet.{anyListing}
 use Rattle.lists.specs.List.{listListing}
 use borrow.Author.Needs.{needs}
 use Rattle.sets.proofs.any_overload_set.AnyOverloadSet.overload_list.Statement.{statement}
@@ -23,11 +22,9 @@ overload-list-requires-2 : tie.Need-overload-list-requires-2
 overload-list-requires-2 c κs = search needs
 
 returns : tie.Need-returns
-unfolding anyListing
 returns c = rw (c .before .before .kind .given .1) (c .overload-list .ensures)
 
 returns-2 : tie.Need-returns-2
-unfolding anyListing
 returns-2 c = rw (c .before .before .before .kind2 .given .1) (c .overload-list2 .ensures ∙ ap listListing (c .before .list-of .ensures))
 
 pub overload-list-spec : {M : Type 1} → statement M

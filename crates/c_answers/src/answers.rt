@@ -1,0 +1,87 @@
+// The structs, one for each kind of answer.
+
+// What stands in a field that is kept free.
+pub const FREE: u8 = 255;
+
+// A chosen rule, with its index.
+#[repr(C)]
+pub struct ChosenForC {
+    pub number: u8,
+    pub index: u8,
+    // The arguments' types, 255 where the rule has no such argument.
+    pub a0: u8,
+    pub a1: u8,
+    pub a2: u8,
+    pub a3: u8,
+    // How many arguments there are.
+    pub count: u8,
+    pub result: u8,
+    // Kept free for whether the call is constant or measured.
+    pub mark: u8,
+    pub place: usize,
+}
+
+// A rule.
+#[repr(C)]
+pub struct RuleForC {
+    pub number: u8,
+    pub a0: u8,
+    pub a1: u8,
+    pub a2: u8,
+    pub a3: u8,
+    pub count: u8,
+    pub result: u8,
+    pub place: usize,
+}
+
+// A Regular set: the masks of its constructors and scalars, and its conclusion by number.
+#[repr(C)]
+pub struct RegularForC {
+    pub number: u8,
+    pub arity: u8,
+    pub constructors: u16,
+    pub scalars: u16,
+    pub conclusion: u8,
+    pub place: usize,
+}
+
+// The scalar of a consensus.
+#[repr(C)]
+pub struct ConsensusForC {
+    pub number: u8,
+    pub scalar: u8,
+    // Kept free for who gave the scalar: its kind, and its number, which is as wide as a place.
+    pub giver: u8,
+    pub component: usize,
+    pub place: usize,
+}
+
+// The type of an expression.
+#[repr(C)]
+pub struct TypeForC {
+    pub number: u8,
+    pub code: u8,
+    // Kept free for whether the expression is constant or measured.
+    pub mark: u8,
+    pub place: usize,
+}
+
+// How a worksheet ran: number 0 for an end, 255 for a stop, whose line is the place.
+#[repr(C)]
+pub struct RunForC {
+    pub number: u8,
+    // The type of the topmost operand.
+    pub top: u8,
+    // Kept free for whether the topmost operand is constant or measured.
+    pub mark: u8,
+    // How many operands are left.
+    pub operands: usize,
+    pub place: usize,
+}
+
+// The answer to a question whose value is a mask, which stands in lent bytes.
+#[repr(C)]
+pub struct MaskForC {
+    pub number: u8,
+    pub place: usize,
+}

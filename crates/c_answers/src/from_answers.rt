@@ -1,0 +1,161 @@
+// Each kind of answer put into its struct, case by case.
+
+ghost use mathlib.Core.Path.{_≡_};
+ghost use mathlib.Core.List.{_∷_};
+ghost use Rattle.scalars.specs.Paper.{refusal, scalarPaper, verdictPaper};
+ghost use Rattle.rules.specs.RulePaper.{rulePaper, ruleValues};
+ghost use Rattle.regular.specs.SetPaper.{regularPaper, regularValues, conclusionNumber};
+ghost use Rattle.lists.specs.ChosenPaper.{chosenPaper};
+ghost use Rattle.c_answers.specs.Answers.{chosenForC, ruleForC, regularForC, consensusForC, maskForC};
+use crate::answers::ChosenForC;
+use crate::answers::ConsensusForC;
+use crate::answers::FREE;
+use crate::answers::MaskForC;
+use crate::answers::RegularForC;
+use crate::answers::RuleForC;
+use lists::ChosenAnswer;
+use regular::ConclusionRule;
+use regular::Regular;
+use regular::RegularAnswer;
+use rules::Rule;
+use rules::RuleAnswer;
+use scalars::ScalarAnswer;
+use scalars::Verdict;
+
+// What stands for a value that a refusal leaves out.
+const NONE: u8 = 255;
+
+// The answer where a rule is chosen.
+pub fn chosen_for_c(answer: ChosenAnswer) -> ChosenForC
+    ensures { λ r. ⌜ r ≡ chosenForC (chosenPaper answer) ⌝ }
+{
+    match answer {
+        ChosenAnswer::Refused(why) => chosen(why.number(), NONE, Rule::BLANK, why.place()),
+        ChosenAnswer::Rule(choice) => {
+            let rule = choice.rule;
+            chosen(0, choice.index, rule, 0)
+        }
+    }
+}
+
+fn chosen(number: u8, index: u8, rule: Rule, place: usize) -> ChosenForC
+    ensures { λ r. ⌜ r ≡ chosenForC (refusal number place (index ∷ ruleValues rule)) ⌝ }
+{
+    ChosenForC {
+        number: number,
+        index: index,
+        a0: rule.a0,
+        a1: rule.a1,
+        a2: rule.a2,
+        a3: rule.a3,
+        count: rule.count,
+        result: rule.result,
+        mark: FREE,
+        place: place,
+    }
+}
+
+// The answer where a rule is asked for.
+pub fn rule_for_c(answer: RuleAnswer) -> RuleForC
+    ensures { λ r. ⌜ r ≡ ruleForC (rulePaper answer) ⌝ }
+{
+    match answer {
+        RuleAnswer::Refused(why) => ruled(why.number(), Rule::BLANK, why.place()),
+        RuleAnswer::Rule(rule) => ruled(0, rule, 0),
+    }
+}
+
+fn ruled(number: u8, listed: Rule, place: usize) -> RuleForC
+    ensures { λ r. ⌜ r ≡ ruleForC (refusal number place (ruleValues listed)) ⌝ }
+{
+    RuleForC {
+        number: number,
+        a0: listed.a0,
+        a1: listed.a1,
+        a2: listed.a2,
+        a3: listed.a3,
+        count: listed.count,
+        result: listed.result,
+        place: place,
+    }
+}
+
+// The answer where a Regular set is asked for.
+pub fn regular_for_c(answer: RegularAnswer) -> RegularForC
+    ensures { λ r. ⌜ r ≡ regularForC (regularPaper answer) ⌝ }
+{
+    match answer {
+        RegularAnswer::Refused(why) => parts(why.number(), Regular::EMPTY, why.place()),
+        RegularAnswer::Set(set) => parts(0, set, 0),
+    }
+}
+
+fn parts(number: u8, set: Regular, place: usize) -> RegularForC
+    ensures { λ r. ⌜ r ≡ regularForC (refusal number place (regularValues set)) ⌝ }
+{
+    let conclusion = set.conclude;
+    RegularForC {
+        number: number,
+        arity: set.arity,
+        constructors: set.constructors.0,
+        scalars: set.scalars.0,
+        conclusion: conclusion_number(conclusion),
+        place: place,
+    }
+}
+
+// The number of a conclusion, in the order of the crate's.
+fn conclusion_number(conclusion: ConclusionRule) -> u8
+    ensures { λ r. ⌜ r ≡ conclusionNumber conclusion ⌝ }
+{
+    match conclusion {
+        ConclusionRule::ArgumentType => 0,
+        ConclusionRule::Scalar => 1,
+        ConclusionRule::Frexp => 2,
+        ConclusionRule::Modf => 3,
+        ConclusionRule::U32 => 4,
+        ConclusionRule::I32 => 5,
+        ConclusionRule::Vec2F => 6,
+        ConclusionRule::Vec4F => 7,
+        ConclusionRule::Vec4I => 8,
+        ConclusionRule::Vec4U => 9,
+    }
+}
+
+// The answer where a consensus is asked for.
+pub fn consensus_for_c(answer: ScalarAnswer) -> ConsensusForC
+    ensures { λ r. ⌜ r ≡ consensusForC (scalarPaper answer) ⌝ }
+{
+    match answer {
+        ScalarAnswer::Refused(why) => ConsensusForC {
+            number: why.number(),
+            scalar: NONE,
+            giver: FREE,
+            component: 255,
+            place: why.place(),
+        },
+        ScalarAnswer::Scalar(scalar) => ConsensusForC {
+            number: 0,
+            scalar: scalar.0,
+            giver: FREE,
+            component: 255,
+            place: 0,
+        },
+    }
+}
+
+// The answer where the value, if any, stands in lent bytes.
+pub fn mask_for_c(answer: Verdict) -> MaskForC
+    ensures { λ r. ⌜ r ≡ maskForC (verdictPaper answer) ⌝ }
+{
+    match answer {
+        Verdict::Refused(why) => MaskForC {
+            number: why.number(),
+            place: why.place(),
+        },
+        Verdict::Accepted => MaskForC {
+            number: 0,
+            place: 0,
+        },
+    }
+}

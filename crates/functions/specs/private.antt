@@ -1,0 +1,2 @@
+-- What the contracts of the crate's own functions say.
+pub mod Built

@@ -1,0 +1,3 @@
+-- What the proofs of several functions use, and that an answer is determined by its paper.
+mod ByteMasks
+pub mod MaskPapers

@@ -1,0 +1,2 @@
+-- Laws of sets of either kind.
+pub mod AnyPapers

@@ -1,0 +1,178 @@
+-- Demand 3 holds of the entry points, as specs/Expressions.antt states it. The typing of bytes is the type t and lines ls exactly where
+-- the bytes give them and there is room (`typing-fits`, `typing-typed`); the rest is demand 3 of trees, and that the first pass accepts
+-- exactly the bytes of the expressions within the limits. Assumes nothing.
+use mathlib.Core.Path.{_≡_, refl, sym, ap, _∙_}
+use mathlib.Core.Logic.{_⊎_, inl, inr}
+use mathlib.Core.Bool.{Bool, true, false}
+use mathlib.Core.List.{List, [], _∷_, _++_}
+use Prim.Native.Nat.{ℕ, _<_}
+use native.Mathlib.Omega.{arith}
+use borrow.Author.Tests.{le-leb, lt-leb, leb-true}
+use lib.Dec.{leb}
+use lib.ListN.{length, take, drop}
+use lib.Seq.{take-append-seam}
+use Rattle.scalars.specs.Mask.{choose}
+use Rattle.scalars.specs.Paper as paper
+use Rattle.functions.specs.Functions.{functionCount, listingOf}
+use Rattle.expressions.specs.Tree.{Tree}
+use Rattle.expressions.specs.Reading.{Expression, read, refusedAs, expressionOf}
+use Rattle.machine.specs.Line.{Line, encode}
+use Rattle.machine.specs.Machine.{runBytes}
+use Rattle.machine.specs.Run.{ranOf}
+use Rattle.worksheet.specs.declared.typer.TypeAnswer.{TypeAnswer}
+use Rattle.worksheet.specs.Typer.{Typed, typed, refused, typeOf}
+use Rattle.worksheet.specs.Answer.{withRoom, bufferAfter}
+use Rattle.worksheet.specs.Typing.{afterReading, typingOf, typing, answerOf, typePaper}
+use Rattle.worksheet.specs.claims.Meaning.{Gives, Stuck}
+use Rattle.worksheet.specs.claims.Demand3 as trees
+use Rattle.expressions.proofs.Answers.{accepted-refused}
+use Rattle.expressions.proofs.AcceptsExactly.{accepts-only, accepts-all}
+use Rattle.worksheet.proofs.OurFunctions.{for-trees}
+use Rattle.theorems.specs.Expressions.{Spells, Giving, Room, Worksheet, Demand3, Theorem}
+
+-- no typing is both
+typed-refused : {A : Type 0} {t n p : ℕ} {ls : List Line} → typed t ls ≡ refused n p → A
+typed-refused e = let z : _≡_ {A = ℕ} 0 1 = cc in absurd (omega arith)
+
+module _ (switch : Bool) (s d : List ℕ) where
+  spelt-read : (e : Tree) → Spells s e → expressionOf functionCount s ≡ read e
+  spelt-read e k = accepts-all functionCount s e (k .text) (k .within)
+
+  demands : (e : Tree) → Spells s e → trees.Demand3 listingOf switch e
+  demands e k = for-trees switch e (k .within)
+
+  -- lines that fit are the typing
+  typing-fits : (e : Tree) (t : ℕ) (ls : List Line) → Giving switch s d e t ls → Room switch s d ls → typing switch s d ≡ typed t ls
+  unfolding typingOf
+  typing-fits e t ls k h =
+      rw (spelt-read e (k .spelt), demands e (k .spelt) .accepted t ls .1 (k .given), le-leb (length (encode ls)) (length d) h)
+
+  -- lines that do not fit are refused
+  typing-short : (e : Tree) (t : ℕ) (ls : List Line) → Giving switch s d e t ls → length d < length (encode ls)
+      → typing switch s d ≡ refused 10 (length (encode ls))
+  unfolding typingOf
+  typing-short e t ls k h =
+      rw (spelt-read e (k .spelt), demands e (k .spelt) .accepted t ls .1 (k .given), lt-leb (length (encode ls)) (length d) h)
+
+  -- and the typing is lines that fit
+  room : (t : ℕ) (ls : List Line) (y : Typed ℕ) → withRoom d y ≡ typed t ls → (y ≡ typed t ls) × Room switch s d ls
+  room t ls (refused n p) q = typed-refused (sym q)
+  room t ls (typed t′ ls′) q = go (leb (length (encode ls′)) (length d)) refl q
+    where
+      go : (b : Bool) → leb (length (encode ls′)) (length d) ≡ b
+          → choose b (typed t′ ls′) (refused 10 (length (encode ls′))) ≡ typed t ls
+          → (typed t′ ls′ ≡ typed t ls) × Room switch s d ls
+      go false p q = typed-refused (sym q)
+      go true p q =
+          let m : ls′ ≡ ls = cc in
+          (q, rw m at (leb-true (length (encode ls′)) (length d) p))
+
+  typing-typed : (t : ℕ) (ls : List Line) → typing switch s d ≡ typed t ls
+      → (e : Tree) × Giving switch s d e t ls × Room switch s d ls
+  unfolding typingOf
+  typing-typed t ls q = go (expressionOf functionCount s) refl q
+    where
+      go : (x : Expression) → expressionOf functionCount s ≡ x → afterReading listingOf switch d x ≡ typed t ls
+          → (e : Tree) × Giving switch s d e t ls × Room switch s d ls
+      go (refusedAs n p) x q = typed-refused (sym q)
+      go (read e) x q =
+          let (text, within) = accepts-only functionCount s e x in
+          let k : Spells s e = record { text = text; within = within } in
+          let (y, held) = room t ls (typeOf listingOf switch e 0) q in
+          (e, record { spelt = k; given = demands e k .accepted t ls .0 y }, held)
+
+  -- no expression gives lines and is stuck, nor gives lines and is spelt by nothing
+  one-reading : (e e′ : Tree) → Spells s e → Spells s e′ → e ≡ e′
+  one-reading e e′ k k′ = let p = spelt-read e k in let p′ = spelt-read e′ k′ in cc
+
+  abbrev Faulty : Type 0
+  Faulty = ((e : Tree) → Spells s e → ⊥) ⊎ ((e : Tree) × Spells s e × Stuck listingOf switch e)
+
+  never-typed : Faulty → (t : ℕ) (ls : List Line) → typing switch s d ≡ typed t ls → ⊥
+  never-typed (inl unspelt) t ls q = let (e, k, h) = typing-typed t ls q in unspelt e (k .spelt)
+  never-typed (inr (e, k, stuck)) t ls q =
+      let (e′, k′, h) = typing-typed t ls q in
+      let same : e ≡ e′ = one-reading e e′ k (k′ .spelt) in
+      demands e′ (k′ .spelt) .neverBoth t ls (k′ .given) (rw same at stuck)
+
+  faulty : ((e : Tree) (t : ℕ) (ls : List Line) → Giving switch s d e t ls → Room switch s d ls)
+      → (n p : ℕ) → typing switch s d ≡ refused n p → Faulty
+  faulty roomy n p q = go (expressionOf functionCount s) refl
+    where
+      either : (e : Tree) → Spells s e → ((t : ℕ) × (ls : List Line) × Gives listingOf switch e t ls) ⊎ Stuck listingOf switch e → Faulty
+      either e k (inr stuck) = inr (e, k, stuck)
+      either e k (inl (t, ls, g)) =
+          let w : Giving switch s d e t ls = record { spelt = k; given = g } in
+          typed-refused (sym (typing-fits e t ls w (roomy e t ls w)) ∙ q)
+
+      go : (x : Expression) → expressionOf functionCount s ≡ x → Faulty
+      go (refusedAs k p) x = inl (λ e f. let x′ = spelt-read e f in let z : _≡_ {A = ℕ} 0 1 = cc in omega arith)
+      go (read e) x =
+          let (text, within) = accepts-only functionCount s e x in
+          let k : Spells s e = record { text = text; within = within } in
+          either e k (demands e k .eitherOne)
+
+  module _ (r : TypeAnswer) (d′ : List ℕ) (answer : typePaper r ≡ answerOf (typing switch s d))
+      (buffer : d′ ≡ bufferAfter (typing switch s d) d) where
+    answered : {x : Typed ℕ} → typing switch s d ≡ x → typePaper r ≡ answerOf x
+    answered q = answer ∙ ap answerOf q
+
+    left : {x : Typed ℕ} → typing switch s d ≡ x → d′ ≡ bufferAfter x d
+    left q = buffer ∙ ap (λ y. bufferAfter y d) q
+
+    typed-lines : (t : ℕ) → typePaper r ≡ paper.accepted (t ∷ []) → (x : Typed ℕ) → typing switch s d ≡ x
+        → (ls : List Line) × (typing switch s d ≡ typed t ls)
+    typed-lines t h (typed t′ ls) q =
+        let e : paper.accepted (t′ ∷ []) ≡ paper.accepted (t ∷ []) = sym (answered q) ∙ h in
+        let m : t′ ≡ t = cc in
+        (ls, rw m at q)
+    typed-lines t h (refused n p) q = accepted-refused (sym h ∙ answered q)
+
+    refused-by : (n p : ℕ) → typePaper r ≡ paper.refusal n p (255 ∷ []) → (x : Typed ℕ) → typing switch s d ≡ x
+        → typing switch s d ≡ refused n p
+    refused-by n p h (refused n′ p′) q =
+        let e : paper.refusal n′ p′ (255 ∷ []) ≡ paper.refusal n p (255 ∷ []) = sym (answered q) ∙ h in
+        let m : n′ ≡ n = cc in
+        let k : p′ ≡ p = cc in
+        rw (m, k) at q
+    refused-by n p h (typed t ls) q = accepted-refused (sym (answered q) ∙ h)
+
+    refusal : Faulty → (x : Typed ℕ) → typing switch s d ≡ x → (n : ℕ) × (p : ℕ) × (typePaper r ≡ paper.refusal n p (255 ∷ []))
+    refusal f (typed t ls) q = absurd (never-typed f t ls q)
+    refusal f (refused n p) q = (n, p, answered q)
+
+    accepted-fits : (t : ℕ) → typePaper r ≡ paper.accepted (t ∷ [])
+        → (e : Tree) × (ls : List Line) × Giving switch s d e t ls × Room switch s d ls
+    accepted-fits t h =
+        let (ls, q) = typed-lines t h (typing switch s d) refl in
+        let (e, k, held) = typing-typed t ls q in
+        (e, ls, k, held)
+
+    sheet : (e : Tree) (t : ℕ) (ls : List Line) → Giving switch s d e t ls → Room switch s d ls → Worksheet switch s d d′ e t ls
+    sheet e t ls k h =
+        let w = demands e (k .spelt) .worksheet t ls (k .given) in
+        let l : d′ ≡ encode ls ++ drop (length (encode ls)) d = left (typing-fits e t ls k h) in
+        let front : take (length (encode ls)) d′ ≡ encode ls =
+        ap (take (length (encode ls))) l ∙ take-append-seam (encode ls) (drop (length (encode ls)) d) in
+        record {
+          inFront = l;
+          itsOwn = w .itsOwn;
+          runs = λ κs a q v promised these. promised ∙ ap (λ b. ranOf (runBytes listingOf b)) (these ∙ front) ∙ ap ranOf (w .bytesRun);
+        }
+
+    holds : Demand3 switch s d r d′
+    holds =
+        record {
+          accepted = λ t. (accepted-fits t, λ (e, ls, k, h). answered (typing-fits e t ls k h));
+          worksheet = sheet;
+          refused = λ roomy. (
+            λ (n, p, h). faulty roomy n p (refused-by n p h (typing switch s d) refl),
+            λ f. refusal f (typing switch s d) refl,
+          );
+          short = λ e t ls k h. answered (typing-short e t ls k h);
+          suffices = λ h e t ls k. omega (arith, demands e (k .spelt) .worksheet t ls (k .given) .suffice);
+          kept = λ n p h. left (refused-by n p h (typing switch s d) refl);
+        }
+
+pub demand-3 : Theorem
+demand-3 κs a r v promised = holds _ _ _ _ _ (promised .0) (promised .1)

@@ -1,0 +1,351 @@
+-- What the operations on a function's set answer after the steps of a call, by the entries of the function's full listing that pass the
+-- steps: of a set of either kind. Assumes nothing.
+use mathlib.Core.Path.{_≡_, refl, sym, ap, _∙_, subst, subst⁻¹}
+use mathlib.Core.Logic.{_↔_, inl}
+use mathlib.Core.Bool.{Bool, true, false}
+use mathlib.Core.List.{List, [], _∷_, map}
+use Prim.Native.Nat.{ℕ, suc, _<_}
+use native.Mathlib.Omega.{arith}
+use borrow.Author.Tests.{le-leb}
+use lib.ListN.{length}
+use Rattle.scalars.specs.Mask.{both, consIf, filter, every, bits}
+use Rattle.scalars.specs.Paper.{Paper, accepted, refusal, testPaper, countPaper}
+use Rattle.scalars.specs.declared.answer.Test.{Test}
+use Rattle.scalars.specs.declared.answer.Test.the-variants as test
+use Rattle.scalars.specs.declared.answer.CountAnswer.the-variants as count
+use Rattle.scalars.specs.declared.refusal.Refusal.the-variants.{EmptySet}
+use Rattle.rules.specs.Signature.{Signature, takes}
+use Rattle.rules.specs.Rule.{ruleOf, passes}
+use Rattle.rules.proofs.Records.{typed?}
+use Rattle.rules.specs.RulePaper.{ruleValues, noRule, rulePaper}
+use Rattle.rules.specs.Verdict.{onVerdict, longest, countOf, emptyOf}
+use Rattle.rules.specs.declared.rule.RuleAnswer.{RuleAnswer}
+use Rattle.rules.specs.declared.rule.RuleAnswer.the-variants as rule
+use Rattle.rules.specs.declared.rule.Keep.{Keep}
+use Rattle.rules.specs.declared.rule.Keep.the-variants.{Argument}
+use Rattle.regular.specs.Regular.{pairs, codesOf, signatureFor, regularRules, allConclude, preferredAmong, regularPreferred, regularCount, regularEmpty}
+use Rattle.regular.specs.private.Tested.{Known}
+use Rattle.regular.specs.declared.regular.Regular.{Regular}
+use Rattle.listed.specs.Sequences.{floatScalars, concreteFloatScalars, concreteIntScalars, vectorSizes, vector, matrix, scalarOrVecn}
+use Rattle.listed.specs.ListedRules.{listedRules}
+use Rattle.listed.specs.declared.listed_rules.Listed.{Listed}
+use Rattle.listed.specs.declared.listed_rules.Listed.the-variants.{Ldexp, Outer, Refract, Mix, Transpose, ExtractBits, InsertBits}
+use Rattle.functions.specs.Functions.{functionCount, functionSetOf, rulesIn, listingOf}
+use Rattle.functions.specs.declared.mathfunction.FunctionSet.{FunctionSet}
+use Rattle.functions.specs.declared.mathfunction.FunctionSet.the-variants as function
+use Rattle.lists.specs.Entry.{Entry, number, keep}
+use Rattle.lists.specs.ChosenPaper.{chosenPaper, noChoice}
+use Rattle.lists.specs.List.{entries, listing, verdictOf, kept, preferredOf, listPreferred, listCount, listEmpty}
+use Rattle.lists.specs.Expansion.{listOf}
+use Rattle.lists.specs.declared.list.ChosenAnswer.{ChosenAnswer}
+use Rattle.lists.specs.declared.list.ChosenAnswer.the-variants as chosen
+use Rattle.lists.specs.declared.list.List as declared
+use Rattle.overloads.specs.Choice.{first}
+use Rattle.overloads.specs.Call.{answered}
+use Rattle.overloads.specs.private.CallSets.{Callable}
+use Rattle.scalars.proofs.Filters.{both-true}
+use Rattle.regular.proofs.Regulars.{known-accepted}
+use Rattle.listed.proofs.Places.{few-listed}
+use Rattle.functions.specs.FunctionPaper.{functionPaper}
+use Rattle.functions.proofs.Database.{some-rules, set-of}
+use Rattle.functions.proofs.FunctionPapers.{set-told}
+use Rattle.lists.proofs.InTurn.{inTurn, lasts}
+use Rattle.lists.proofs.Lists.{entries-rules}
+use Rattle.lists.proofs.Steps.{entries-kept}
+use Rattle.lists.proofs.SetSteps.{stepRegular, knownStep, step-known, step-concludes}
+use Rattle.lists.proofs.Preferred.{OneShape, argument-one, step-one, regular-first}
+use Rattle.lists.proofs.Expansions.{Tested, accepted-of, kept-tested}
+use Rattle.lists.proofs.Agreement.{rules-after}
+use Rattle.overloads.proofs.Firsts.{keep-keep, keep-every}
+use Rattle.overloads.proofs.Narrowing.{takesFrom, permits, passesAll}
+use Rattle.overloads.proofs.ListResolving.{full-entries}
+use Rattle.overloads.proofs.ListCalls.{some-count, full-count}
+use Rattle.overloads.proofs.RegularCalls.{rules-longest}
+use Rattle.overloads.proofs.FunctionCalls.{callable, regular-listing, full, short-listed, listed-valid, listed-signatures, never-unknown}
+use Rattle.functions.proofs.function_set as function_set
+use Rattle.theorems.specs.Known.{AllKnown}
+use Rattle.theorems.specs.Operations.{Set, regular, list, Empty, Least, Most, Preferred, After}
+use Rattle.theorems.specs.Calls.{Has, itsRegular, itsList, stepsFrom, AnswersRule}
+use Rattle.theorems.proofs.Operations.{asked, after-regular, after-list}
+
+-- ---- the steps of a call, as one test of a rule
+
+keep-alike : (p q : Signature → Bool) → ((r : Signature) → p r ≡ q r) → (s : List Entry) → keep p s ≡ keep q s
+keep-alike p q e [] = refl
+keep-alike p q e (x ∷ xs) = rw (e (x .rule), keep-alike p q e xs)
+
+both-assoc : (a b c : Bool) → both a (both b c) ≡ both (both a b) c
+both-assoc true b c = refl
+both-assoc false b c = refl
+
+abbrev keeping : List Keep → List Entry → List Entry
+keeping ks s = inTurn (λ k. keep (passes k)) ks s
+
+steps-kept : (switch : Bool) (ts : List ℕ) (k : ℕ) (s : List Entry)
+    → keeping (stepsFrom switch k ts) s ≡ keep (λ r. both (takesFrom k ts r) (permits switch r)) s
+steps-kept false [] k s = sym (keep-every s)
+steps-kept true [] k s = refl
+steps-kept switch (t ∷ ts) k s =
+    steps-kept switch ts (suc k) (keep (takes k t) s) ∙ keep-keep (takes k t) (λ r. both (takesFrom (suc k) ts r) (permits switch r)) s
+    ∙ keep-alike _ _ (λ r. both-assoc (takes k t r) (takesFrom (suc k) ts r) (permits switch r)) s
+
+known-steps : (switch : Bool) (ts : List ℕ) (k : ℕ) → AllKnown ts → every knownStep (stepsFrom switch k ts) ≡ true
+known-steps true [] k h = refl
+known-steps false [] k h = refl
+known-steps switch (t ∷ ts) k h =
+    both-true (le-leb t 180 (h 0 (omega arith))) (known-steps switch ts (suc k) (λ i l. h (suc i) (omega arith)))
+
+-- the entries of a listing that pass
+abbrev pub passing : Bool → List ℕ → List Signature → List Entry
+passing switch ts rules = keep (passesAll switch ts) (number 0 rules)
+
+-- ---- their papers
+
+-- whether there is none
+abbrev pub emptyEntries : List Entry → Paper
+emptyEntries [] = accepted (1 ∷ [])
+emptyEntries (x ∷ xs) = accepted (0 ∷ [])
+
+abbrev testOf : List Entry → Test
+testOf [] = test.Yes
+testOf (x ∷ xs) = test.No
+
+test-of : (s : List Entry) → testPaper (testOf s) ≡ emptyEntries s
+test-of [] = refl
+test-of (x ∷ xs) = refl
+
+abbrev rulesOf : List Entry → List Signature
+rulesOf s = map (λ (x : Entry). x .rule) s
+
+empty-of : (s : List Entry) → emptyOf (rulesOf s) ≡ emptyEntries s
+empty-of [] = refl
+empty-of (x ∷ xs) = refl
+
+-- the first rule
+abbrev firstRule : List Entry → Paper
+firstRule [] = refusal 1 0 noRule
+firstRule (x ∷ xs) = accepted (ruleValues (ruleOf (x .rule)))
+
+abbrev ruleAnswer : List Entry → RuleAnswer
+ruleAnswer [] = rule.Refused (EmptySet 0)
+ruleAnswer (x ∷ xs) = rule.Rule (ruleOf (x .rule))
+
+rule-answer : (s : List Entry) → rulePaper (ruleAnswer s) ≡ firstRule s
+rule-answer [] = refl
+rule-answer (x ∷ xs) = refl
+
+rule-answered : (r : Regular) (s : List Entry) (vs : List ℕ) → accepted vs ≡ firstRule s ↔ AnswersRule (regular r) (answered (first s)) vs
+rule-answered r [] vs = (
+  λ e. let z : _≡_ {A = ℕ} 0 1 = cc in absurd (omega arith),
+  λ (i, e). let z : _≡_ {A = ℕ} 0 1 = cc in absurd (omega arith),
+)
+rule-answered r (x ∷ xs) vs = (
+  λ e. let f : vs ≡ ruleValues (ruleOf (x .rule)) = cc in (x .index, ap (λ ws. accepted (x .index ∷ ws)) (sym f)),
+  λ (i, e). let f : ruleValues (ruleOf (x .rule)) ≡ vs = cc in ap accepted (sym f),
+)
+
+-- and with its index
+abbrev chosenAnswer : List Entry → ChosenAnswer
+chosenAnswer [] = chosen.Refused (EmptySet 0)
+chosenAnswer (x ∷ xs) = chosen.Rule (record { index = x .index; rule = ruleOf (x .rule) })
+
+chosen-answer : (s : List Entry) → chosenPaper (chosenAnswer s) ≡ answered (first s)
+chosen-answer [] = refl
+chosen-answer (x ∷ xs) = refl
+
+preferred-first : (s : List Entry) → preferredOf s ≡ answered (first s)
+preferred-first [] = refl
+preferred-first (x ∷ xs) = refl
+
+-- ---- what a set means: the answers after the steps of a call are those of the listing's entries that pass
+
+pub record Means (s : Set) (rules : List Signature) : Type 0 where
+  pub least : (p : Paper) → Least s p ↔ p ≡ accepted (longest rules ∷ [])
+  pub most : (p : Paper) → Most s p ↔ p ≡ accepted (longest rules ∷ [])
+  pub empty : (switch : Bool) (ts : List ℕ) → AllKnown ts → (p : Paper)
+      → After Empty (stepsFrom switch 0 ts) s p ↔ p ≡ emptyEntries (passing switch ts rules)
+  pub preferred : (switch : Bool) (ts : List ℕ) → AllKnown ts → length ts ≡ longest rules → (vs : List ℕ)
+      → After Preferred (stepsFrom switch 0 ts) s (accepted vs) ↔ AnswersRule s (answered (first (passing switch ts rules))) vs
+
+both-ways : {A B C : Type 0} → A ↔ B → B ↔ C → A ↔ C
+both-ways (a, b) (c, d) = (λ x. c (a x), λ x. b (d x))
+
+-- ---- a Regular set
+
+kept-rules : (p : Signature → Bool) (s : List Entry) → rulesOf (keep p s) ≡ filter p (rulesOf s)
+kept-rules p [] = refl
+kept-rules p (x ∷ xs) = go (p (x .rule)) ∙ ap (consIf (p (x .rule)) (x .rule)) (kept-rules p xs)
+  where
+    go : (b : Bool) → rulesOf (consIf b x (keep p xs)) ≡ consIf b (x .rule) (rulesOf (keep p xs))
+    go true = refl
+    go false = refl
+
+keeping-rules : (ks : List Keep) (s : List Entry) → rulesOf (keeping ks s) ≡ inTurn (λ k. filter (passes k)) ks (rulesOf s)
+keeping-rules [] s = refl
+keeping-rules (k ∷ ks) s = keeping-rules ks (keep (passes k) s) ∙ ap (inTurn (λ k. filter (passes k)) ks) (kept-rules (passes k) s)
+
+numbered : (i : ℕ) (rs : List Signature) → rulesOf (number i rs) ≡ rs
+numbered i [] = refl
+numbered i (r ∷ rs) = ap (λ xs. r ∷ xs) (numbered (suc i) rs)
+
+among-none : (r : Regular) (ks ss : List ℕ) → map (signatureFor r) (pairs ks ss) ≡ [] → preferredAmong r ks ss ≡ refusal 1 0 noRule
+among-none r [] ss e = refl
+among-none r (k ∷ ks) [] e = refl
+among-none r (k ∷ []) (s ∷ ss) e = let z : _≡_ {A = ℕ} 0 1 = cc in absurd (omega arith)
+among-none r (k ∷ l ∷ ks) (s ∷ ss) e = let z : _≡_ {A = ℕ} 0 1 = cc in absurd (omega arith)
+
+regular-none : (r : Regular) → Known r → regularRules r ≡ [] → regularPreferred r ≡ refusal 1 0 noRule
+unfolding regularPreferred codesOf regularRules
+regular-none r known e =
+    ap (λ v. onVerdict v (preferredAmong r (bits 13 (r .constructors .0)) (bits 12 (r .scalars .0))) noRule) (known-accepted r known)
+    ∙ among-none r (bits 13 (r .constructors .0)) (bits 12 (r .scalars .0)) e
+
+module _ (r : Regular) (able : Callable r) (some : 0 < length (regularRules r)) where
+  regular-count : regularCount r ≡ accepted (longest (regularRules r) ∷ [])
+  unfolding regularCount
+  regular-count = ap (λ v. onVerdict v (countOf (regularRules r)) (255 ∷ [])) (known-accepted r (able .known)) ∙ some-count (regularRules r) some
+
+  module _ (switch : Bool) (ts : List ℕ) (known : AllKnown ts) where
+    abbrev rest : Regular
+    rest = inTurn stepRegular (stepsFrom switch 0 ts) r
+
+    rest-known : Known rest
+    rest-known = lasts Known stepRegular step-known (stepsFrom switch 0 ts) r (able .known)
+
+    rest-rules : regularRules rest ≡ rulesOf (passing switch ts (regularRules r))
+    rest-rules =
+        rules-after (stepsFrom switch 0 ts) r (inl (able .arguments))
+        ∙ ap (inTurn (λ k. filter (passes k)) (stepsFrom switch 0 ts)) (sym (numbered 0 (regularRules r)))
+        ∙ sym (keeping-rules (stepsFrom switch 0 ts) (number 0 (regularRules r)))
+        ∙ ap rulesOf (steps-kept switch ts 0 (number 0 (regularRules r)))
+
+    rest-empty : regularEmpty rest ≡ emptyEntries (passing switch ts (regularRules r))
+    unfolding regularEmpty
+    rest-empty =
+        ap (λ v. onVerdict v (emptyOf (regularRules rest)) (255 ∷ [])) (known-accepted rest rest-known) ∙ ap emptyOf rest-rules
+        ∙ empty-of (passing switch ts (regularRules r))
+
+    -- an argument's step has left one constructor, or none
+    rest-shape : length ts ≡ longest (regularRules r) → OneShape rest
+    rest-shape e = go ts (e ∙ rules-longest r able ts)
+      where
+        go : (us : List ℕ) → length us ≡ r .arity → OneShape (inTurn stepRegular (stepsFrom switch 0 us) r)
+        go [] e = absurd (omega (arith, able .arguments))
+        go (u ∷ us) e = lasts OneShape stepRegular step-one (stepsFrom switch 1 us) (stepRegular (Argument 0 u) r) (argument-one 0 u r)
+
+    rest-preferred : length ts ≡ longest (regularRules r) → regularPreferred rest ≡ firstRule (passing switch ts (regularRules r))
+    rest-preferred e = go (passing switch ts (regularRules r)) rest-rules
+      where
+        go : (s : List Entry) → regularRules rest ≡ rulesOf s → regularPreferred rest ≡ firstRule s
+        go [] q = regular-none rest rest-known q
+        go (x ∷ xs) q =
+            regular-first rest rest-known
+            (lasts (λ y. allConclude y ≡ true) stepRegular step-concludes (stepsFrom switch 0 ts) r (able .concludes)) (rest-shape e)
+            (x .rule) (rulesOf xs) q
+
+  regular-means : Means (regular r) (regularRules r)
+  regular-means = record {
+    least = asked countPaper (regularCount r) _ regular-count (count.Count (longest (regularRules r))) refl;
+    most = asked countPaper (regularCount r) _ regular-count (count.Count (longest (regularRules r))) refl;
+    empty = λ switch ts known p.
+        both-ways (after-regular Empty (stepsFrom switch 0 ts) r (able .known) (known-steps switch ts 0 known) p)
+        (asked testPaper (regularEmpty (rest switch ts known)) _ (rest-empty switch ts known)
+        (testOf (passing switch ts (regularRules r))) (test-of (passing switch ts (regularRules r))) p);
+    preferred = λ switch ts known e vs.
+        both-ways (after-regular Preferred (stepsFrom switch 0 ts) r (able .known) (known-steps switch ts 0 known) (accepted vs))
+        (both-ways (asked rulePaper (regularPreferred (rest switch ts known)) _ (rest-preferred switch ts known e)
+        (ruleAnswer (passing switch ts (regularRules r))) (rule-answer (passing switch ts (regularRules r))) (accepted vs))
+        (rule-answered r (passing switch ts (regularRules r)) vs));
+  }
+
+-- ---- a List
+
+typed-listed : (l : Listed) → every typed? (listedRules l) ≡ true
+unfolding listedRules floatScalars concreteFloatScalars concreteIntScalars vectorSizes vector matrix scalarOrVecn
+typed-listed Ldexp = refl
+typed-listed Outer = refl
+typed-listed Refract = refl
+typed-listed Mix = refl
+typed-listed Transpose = refl
+typed-listed ExtractBits = refl
+typed-listed InsertBits = refl
+
+entries-after : (ks : List Keep) (l : declared.List) → entries (inTurn kept ks l) ≡ keeping ks (entries l)
+entries-after [] l = refl
+entries-after (k ∷ ks) l = entries-after ks (kept k l) ∙ ap (keeping ks) (entries-kept k l)
+
+module _ (d : Listed) where
+  abbrev whole : declared.List
+  whole = listOf (listedRules d)
+
+  tested : Tested whole
+  tested = record { valid = listed-valid d; accepted = accepted-of (listedRules d) (short-listed d) (few-listed d) (typed-listed d) }
+
+  list-count : listCount whole ≡ accepted (longest (listedRules d) ∷ [])
+  unfolding listCount
+  list-count =
+      ap (λ v. onVerdict v (countOf (listing whole)) (255 ∷ [])) (tested .accepted) ∙ full-count whole (full d whole refl)
+      ∙ ap (λ rs. accepted (longest rs ∷ [])) (listed-signatures d)
+
+  module _ (switch : Bool) (ts : List ℕ) where
+    abbrev left : declared.List
+    left = inTurn kept (stepsFrom switch 0 ts) whole
+
+    left-accepted : verdictOf left ≡ accepted []
+    left-accepted = lasts Tested kept kept-tested (stepsFrom switch 0 ts) whole tested .accepted
+
+    left-entries : entries left ≡ passing switch ts (listedRules d)
+    left-entries =
+        entries-after (stepsFrom switch 0 ts) whole
+        ∙ ap (keeping (stepsFrom switch 0 ts)) (full-entries whole (full d whole refl) ∙ ap (number 0) (listed-signatures d))
+        ∙ steps-kept switch ts 0 (number 0 (listedRules d))
+
+    left-empty : listEmpty left ≡ emptyEntries (passing switch ts (listedRules d))
+    unfolding listEmpty
+    left-empty =
+        ap (λ v. onVerdict v (emptyOf (listing left)) (255 ∷ [])) left-accepted ∙ ap emptyOf (sym (entries-rules left) ∙ ap rulesOf left-entries)
+        ∙ empty-of (passing switch ts (listedRules d))
+
+    left-preferred : listPreferred left ≡ answered (first (passing switch ts (listedRules d)))
+    unfolding listPreferred
+    left-preferred =
+        ap (λ v. onVerdict v (preferredOf (entries left)) noChoice) left-accepted ∙ ap preferredOf left-entries
+        ∙ preferred-first (passing switch ts (listedRules d))
+
+  list-means : Means (list whole) (listedRules d)
+  list-means = record {
+    least = asked countPaper (listCount whole) _ list-count (count.Count (longest (listedRules d))) refl;
+    most = asked countPaper (listCount whole) _ list-count (count.Count (longest (listedRules d))) refl;
+    empty = λ switch ts known p.
+        both-ways (after-list Empty (stepsFrom switch 0 ts) whole tested (known-steps switch ts 0 known) p)
+        (asked testPaper (listEmpty (left switch ts)) _ (left-empty switch ts)
+        (testOf (passing switch ts (listedRules d))) (test-of (passing switch ts (listedRules d))) p);
+    preferred = λ switch ts known e vs.
+        both-ways (after-list Preferred (stepsFrom switch 0 ts) whole tested (known-steps switch ts 0 known) (accepted vs))
+        (both-ways (asked chosenPaper (listPreferred (left switch ts)) _ (left-preferred switch ts)
+        (chosenAnswer (passing switch ts (listedRules d))) (chosen-answer (passing switch ts (listedRules d))) (accepted vs)) (sym, sym));
+  }
+
+-- ---- a function's set means its full listing
+
+-- the contract of `function_set`, read
+set-is : (f : ℕ) (s : FunctionSet) → function_set.Reads.Post tt (f, tt) s (f, tt) ↔ functionSetOf f ≡ s
+set-is f s = (λ p. set-told f s p refl, λ e. ap functionPaper (sym e) ∙ set-of f)
+
+pub has-set : (f : ℕ) → f < functionCount → (s : Set) × Has f s
+has-set f h = go (functionSetOf f) refl
+  where
+    go : (s : FunctionSet) → functionSetOf f ≡ s → (s : Set) × Has f s
+    go (function.Regular r) e = (regular r, itsRegular r (set-is f (function.Regular r) .1 e))
+    go (function.List d) e = (list (listOf (listedRules d)), itsList d (set-is f (function.List d) .1 e) refl)
+    go function.Unknown e = absurd (never-unknown f h e)
+
+pub means : (f : ℕ) → f < functionCount → (s : Set) → Has f s → Means s (listingOf f)
+unfolding listingOf
+means f h (regular r) (itsRegular _ p) =
+    let e = set-is f (function.Regular r) .0 p in
+    let q : listingOf f ≡ regularRules r = regular-listing f r e in
+    subst⁻¹ (Means (regular r)) q (regular-means r (callable f r e) (subst (λ rs. 0 < length rs) q (some-rules f h)))
+means f h (list l) (itsList d p q) =
+    let e : listingOf f ≡ listedRules d = ap rulesIn (set-is f (function.List d) .0 p) in
+    subst⁻¹ (λ x. Means (list x) (listingOf f)) q (subst⁻¹ (Means (list (listOf (listedRules d)))) e (list-means d))

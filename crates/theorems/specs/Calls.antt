@@ -1,0 +1,108 @@
+-- Demand 2, of single calls. Take any function number f, any operands ts, the switch on or off, and whatever answers the contracts of
+-- `call_of` and `survivors_of` permit of them.
+--
+-- * 7 at 0 exactly when there is no function f; 7 at 1 + i exactly when there is, and operand i is the first that is no type.
+-- A function has a set. Of a function and types, a call answers what the operations on the function's set answer, of either kind:
+-- * 5 exactly when the number of operands is below the least count or above the most. Otherwise the set is asked for `arg`, each operand
+--   in turn, and then for `concrete_only` if the switch is on.
+-- * 6 at operand k exactly when `is_empty` says no before it and yes with it.
+-- * 1 exactly when `is_empty` says no after the last operand, and yes after `concrete_only`.
+-- * A rule exactly when `most_preferred` answers it after all the steps; of a List, with the same index.
+-- And it answers what the function's full listing says, apart from all steps: the first rule that takes the operands, with its index, or
+-- what is wrong.
+--
+-- The survivors of a call are the rules of the full listing that take the operands, and the call's rule is the first of them. Where a
+-- call is refused its survivors are refused alike, and conversely.
+use mathlib.Core.Path.{_≡_}
+use mathlib.Core.Logic.{_↔_}
+use mathlib.Core.Bool.{Bool, true, false}
+use mathlib.Core.List.{List, [], _∷_}
+use Prim.Native.Nat.{ℕ, suc, _+_, _≤_, _<_}
+use lib.ListN.{length, take}
+use Rattle.scalars.specs.Mask.{select}
+use Rattle.scalars.specs.Paper.{Paper, accepted, refusal}
+use Rattle.rules.specs.declared.rule.Keep.{Keep}
+use Rattle.rules.specs.declared.rule.Keep.the-variants.{Argument, Concrete}
+use Rattle.regular.specs.declared.regular.Regular.{Regular}
+use Rattle.listed.specs.declared.listed_rules.Listed.{Listed}
+use Rattle.functions.specs.Functions.{functionCount, listingOf}
+use Rattle.functions.specs.declared.mathfunction.FunctionSet.the-variants as function
+use Rattle.lists.specs.Entry.{number}
+use Rattle.lists.specs.ChosenPaper.{chosenPaper, noChoice}
+use Rattle.lists.specs.declared.list.List as declared
+use Rattle.lists.specs.declared.list.ChosenAnswer.{ChosenAnswer}
+use Rattle.overloads.specs.Choice.{Choice, first}
+use Rattle.overloads.specs.claims.Taking.{Survive, Says}
+use Rattle.overloads.specs.Call.{answered}
+use Rattle.overloads.specs.SurvivorsPaper.{survivorsPaper}
+use Rattle.functions.proofs as functions
+use Rattle.overloads.proofs as overloads
+use Rattle.theorems.specs.Contracts.{Promises}
+use Rattle.theorems.specs.Known.{AllKnown, FirstUnknown}
+use Rattle.theorems.specs.Operations.{Set, regular, list, Empty, Least, Most, Preferred, After}
+
+-- the set of a function: what `function_set` answers; where that names a List, what `list_of` answers
+pub data Has (f : ℕ) : Set → Type 0 where
+  itsRegular : (r : Regular) → functions.function_set.Reads.Post tt (f, tt) (function.Regular r) (f, tt) → Has f (regular r)
+  itsList : (d : Listed) {l : declared.List} → functions.function_set.Reads.Post tt (f, tt) (function.List d) (f, tt)
+      → overloads.list_of.Reads.Post tt (d, tt) l (d, tt) → Has f (list l)
+
+-- the steps of a call: each operand at its index, then the concrete-only step if the switch is on
+abbrev pub lastStep : Bool → List Keep
+lastStep false = []
+lastStep true = Concrete ∷ []
+
+abbrev pub stepsFrom : Bool → ℕ → List ℕ → List Keep
+stepsFrom switch k [] = lastStep switch
+stepsFrom switch k (t ∷ ts) = Argument k t ∷ stepsFrom switch (suc k) ts
+
+-- n operands are neither fewer than the least count nor more than the most
+pub record Fits (s : Set) (n : ℕ) : Type 0 where
+  pub least : ℕ
+  pub most : ℕ
+  pub least-is : Least s (accepted (least ∷ []))
+  pub most-is : Most s (accepted (most ∷ []))
+  pub enough : least ≤ n
+  pub few : n ≤ most
+
+-- `is_empty` turns from no to yes with operand k
+pub record EmptiedAt (s : Set) (ts : List ℕ) (k : ℕ) : Type 0 where
+  pub there : k < length ts
+  pub before : After Empty (stepsFrom false 0 (take k ts)) s (accepted (0 ∷ []))
+  pub after : After Empty (stepsFrom false 0 (take (suc k) ts)) s (accepted (1 ∷ []))
+
+-- and from no to yes with `concrete_only`
+pub record Dropped (switch : Bool) (s : Set) (ts : List ℕ) : Type 0 where
+  pub before : After Empty (stepsFrom false 0 ts) s (accepted (0 ∷ []))
+  pub after : After Empty (stepsFrom switch 0 ts) s (accepted (1 ∷ []))
+
+-- a call answers a rule, with its index in front; a Regular set answers the rule alone
+abbrev pub AnswersRule : Set → Paper → List ℕ → Type 0
+AnswersRule (regular r) p vs = (i : ℕ) × (p ≡ accepted (i ∷ vs))
+AnswersRule (list l) p vs = p ≡ accepted vs
+
+pub record BySet (switch : Bool) (s : Set) (ts : List ℕ) (p : Paper) : Type 0 where
+  pub otherCount : p ≡ refusal 5 0 noChoice ↔ (Fits s (length ts) → ⊥)
+  pub emptied : (k : ℕ) → p ≡ refusal 6 (1 + k) noChoice ↔ (Fits s (length ts) × EmptiedAt s ts k)
+  pub dropped : p ≡ refusal 1 0 noChoice ↔ (Fits s (length ts) × Dropped switch s ts)
+  pub rule : (vs : List ℕ) → AnswersRule s p vs ↔ (Fits s (length ts) × After Preferred (stepsFrom switch 0 ts) s (accepted vs))
+
+pub record Call (switch : Bool) (f : ℕ) (ts : List ℕ) (p : Paper) : Type 0 where
+  pub unknownFunction : p ≡ refusal 7 0 noChoice ↔ functionCount ≤ f
+  pub unknownType : (i : ℕ) → p ≡ refusal 7 (1 + i) noChoice ↔ ((f < functionCount) × FirstUnknown ts i)
+  pub hasSet : f < functionCount → (s : Set) × Has f s
+  pub bySet : f < functionCount → AllKnown ts → (s : Set) → Has f s → BySet switch s ts p
+  pub byListing : f < functionCount → AllKnown ts → (c : Choice) × Says switch (listingOf f) ts c × (p ≡ answered c)
+
+-- of the answers p of `call_of` and q of `survivors_of` to the same arguments
+pub record Survivors (switch : Bool) (f : ℕ) (ts : List ℕ) (p q : Paper) : Type 0 where
+  pub refusedAlike : (n i : ℕ) → q ≡ refusal n i (0 ∷ []) ↔ p ≡ refusal n i noChoice
+  pub survive : (m : ℕ) → q ≡ accepted (m ∷ []) → Survive switch (listingOf f) ts m
+  pub preferred : (m : ℕ) → q ≡ accepted (m ∷ []) → p ≡ answered (first (select (number 0 (listingOf f)) m))
+
+pub record Theorem : Type 0 where
+  pub calls : Promises overloads.call_of.ended overloads.call_of.Reads.Post
+      (λ κs a r s. Call (a .1 .1 .0) (a .0) (a .1 .0 .now) (chosenPaper r))
+  pub survivors : Promises overloads.survivors_of.ended overloads.survivors_of.Reads.Post
+      (λ κs a q s. (r : ChosenAnswer) → overloads.call_of.Reads.Post κs a r s
+      → Survivors (a .1 .1 .0) (a .0) (a .1 .0 .now) (chosenPaper r) (survivorsPaper q))

@@ -1,0 +1,1 @@
+// No functions: theorems about the answers of the crates below. specs/ states them, proofs/ proves them.
