@@ -1,7 +1,7 @@
 /* Azwukran for C: overload resolution of shader math functions, sets made by hand, consensus of scalars, and worksheets of
  * expressions.
  *
- * Link target/staticlib/libbindings.a, which `rt staticlib bindings` writes (x86-64). The library uses no heap, keeps
+ * Link target/staticlib/libazwukran.a, which `rt staticlib azwukran` writes (x86-64). The library uses no heap, keeps
  * nothing between calls and writes nothing but the bytes lent to it as `out`, so any thread may call it at any time.
  * No argument is an error to the library: whatever it cannot answer it refuses by number.
  *
@@ -124,7 +124,8 @@ typedef struct azwukran_consensus_answer {
 typedef struct azwukran_type_answer {
     uint8_t number;
     uint8_t type;
-    uint8_t mark; /* Kept free for: constant or measured. */
+    uint8_t mark;  /* Kept free for: constant or measured. */
+    size_t length; /* How many bytes the worksheet takes. */
     size_t place;
 } azwukran_type_answer;
 
@@ -166,8 +167,9 @@ azwukran_consensus_answer azwukran_consensus(uint8_t base, const uint8_t *compon
  * An expression is in prefix form: a leaf is 0, type (0 to 156); a call is 1, function, number of arguments, and then its
  * arguments. concrete_only (0 or 1) concerns every call. A worksheet is lines of four bytes: 0, type, 0, 0 pushes a leaf;
  * 2, depth from the top, type, 0 converts an operand; 1, function, index, number of arguments calls. Refusals: 8, 9, 7 in the
- * order of the bytes, then 5, 6, 1 call by call, then 10. Bytes behind an accepted worksheet keep theirs. To learn a
- * worksheet's length, ask with room 0: an expression that is right but for that is refused by 10, with the length. */
+ * order of the bytes, then 5, 6, 1 call by call, then 10. An accepted worksheet is the first `length` bytes of `out`, and the
+ * bytes behind it keep theirs. To learn the length without lending any, ask with room 0: an expression that is right but for
+ * that is refused by 10, with the length as its place. */
 azwukran_type_answer azwukran_type(const uint8_t *bytes, size_t n, uint8_t concrete_only, uint8_t *out, size_t room);
 
 /* Runs a worksheet of n bytes on the strict machine, which stops at the first line that is not exactly right. */

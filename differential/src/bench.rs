@@ -12,7 +12,7 @@ use crate::expressions::{self, ENOUGH_ROOM};
 use crate::generate::{self, Accepted, Generator};
 use crate::machine::LINE;
 use crate::numbering::{self, FUNCTIONS, NONE, OPAQUE, SCALAR_COUNT};
-use crate::ours::{self, List, Regular, LENT};
+use crate::ours::{self, List, Masked, Regular, LENT};
 use crate::random::Random;
 
 const INPUTS: usize = 20_000;
@@ -122,7 +122,7 @@ fn bench_list_steps(rules: &Crate, seed: u64) {
             black_box(rules.hand_step(hand, *index, *code));
         },
         |(bytes, members, _, index, code)| {
-            black_box(List { rules: bytes, members }.arg(*index, *code, LENT));
+            black_box(Masked::asked(LENT, |out| List { rules: bytes, members }.arg(*index, *code, out)));
         },
     );
 }

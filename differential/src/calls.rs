@@ -2,11 +2,11 @@
 
 use naga::proc::OverloadSet;
 
-use crate::compare::Effort;
 use crate::crate_side::{Crate, Outcome};
-use crate::generate::Accepted;
+use crate::effort::Effort;
+use crate::generate::{any_code, next_tuple, Accepted};
 use crate::numbering::{FUNCTIONS, LAST_CODE};
-use crate::ours;
+use crate::ours::{self, Refused};
 use crate::random::Random;
 use crate::tally::{beginning, grouped, Tally};
 
@@ -137,22 +137,6 @@ fn check_call(tally: &mut Tally, function: u8, operands: &[u8], concrete_only: b
             beginning(operands)
         )
     });
-}
-
-/// The next tuple of codes in ascending order; false after the last.
-pub fn next_tuple(operands: &mut [u8]) -> bool {
-    for operand in operands.iter_mut().rev() {
-        if *operand < LAST_CODE {
-            *operand += 1;
-            return true;
-        }
-        *operand = 0;
-    }
-    false
-}
-
-pub fn any_code(random: &mut Random) -> u8 {
-    random.below(usize::from(LAST_CODE) + 1) as u8
 }
 
 /// Survivors with less room than their mask takes: refused by 10, after the call's own refusals.

@@ -1,57 +1,21 @@
 //! Puts the same questions to the crate and to the library and counts the answers that differ: rules, calls, sets made by
-//! hand, consensus, expressions and worksheets. Where the questions are few enough they are all put; the rest are drawn from the seed.
+//! hand, consensus, expressions and worksheets. Where the questions are few enough they are all put; the rest are drawn
+//! from the seed.
 
 use std::panic::{self, AssertUnwindSafe};
 
-use crate::calls::{any_code, compare_calls, compare_room, compare_unknown, next_tuple};
+use crate::calls::{compare_calls, compare_room, compare_unknown};
 use crate::crate_side::{Asker, Crate};
+use crate::effort::{Effort, FULL, QUICK};
 use crate::expressions::{self, ENOUGH_ROOM};
-use crate::generate::{self, Generator};
+use crate::generate::{self, any_code, next_tuple, Generator};
 use crate::machine;
 use crate::numbering::{LAST_CODE, NONE, OPAQUE, SCALAR_COUNT};
-use crate::ours::{self, Run};
+use crate::ours::{self, TypeAnswer};
 use crate::random::Random;
 use crate::readings::{self, Reading};
 use crate::sets::compare_sets;
 use crate::tally::{beginning, differing, grouped, Tally};
-
-/// How much is asked.
-pub struct Effort {
-    /// Operand tuples and component lists up to this length are all asked.
-    pub exhaustive: usize,
-    /// For longer tuples of the right length: so many endings of each beginning that the crate refuses.
-    pub endings: usize,
-    /// For functions with longer tuples: so many random ones of the right and of the wrong length each.
-    pub tuples: usize,
-    /// Random sets made by hand, of each kind.
-    pub sets: usize,
-    /// Random component lists.
-    pub consensus: usize,
-    /// Random expressions.
-    pub expressions: usize,
-    /// Random worksheets.
-    pub worksheets: usize,
-}
-
-const FULL: Effort = Effort {
-    exhaustive: 3,
-    endings: 400,
-    tuples: 1_000_000,
-    sets: 2_000_000,
-    consensus: 4_000_000,
-    expressions: 1_000_000,
-    worksheets: 2_000_000,
-};
-
-const QUICK: Effort = Effort {
-    exhaustive: 2,
-    endings: 10,
-    tuples: 20_000,
-    sets: 10_000,
-    consensus: 200_000,
-    expressions: 40_000,
-    worksheets: 80_000,
-};
 
 /// Compares everything and prints what was compared. Answers whether nothing differs.
 pub fn compare(seed: u64, quick: bool) -> bool {
@@ -191,7 +155,7 @@ fn compare_expressions(rules: &Crate, effort: &Effort, seed: u64) -> u64 {
                 check_typing(&mut tally, &bytes, concrete_only, room, fill, (typed, sheet));
             }
             if answer.0.number == 0 {
-                let ended = Run::ended(1, answer.0.type_code);
+                let ended = ours::ended(1, answer.0.type_code);
                 let runs = (machine::run(rules, &answer.1), ours::run(&answer.1));
                 tally.check((ended, ended), runs, || format!("the worksheet {:?} of {bytes:?}", answer.1));
             }
@@ -212,7 +176,7 @@ fn compare_expressions(rules: &Crate, effort: &Effort, seed: u64) -> u64 {
 /// contents.
 #[derive(Debug, PartialEq)]
 struct Written<'a> {
-    typed: ours::Typed,
+    typed: TypeAnswer,
     sheet: &'a [u8],
     rest_kept: bool,
 }
@@ -224,7 +188,7 @@ fn check_typing(
     concrete_only: bool,
     room: usize,
     fill: u8,
-    (typed, sheet): (ours::Typed, &[u8]),
+    (typed, sheet): (TypeAnswer, &[u8]),
 ) {
     const BEHIND: usize = 16;
     let mut buffer = vec![fill; room + BEHIND];

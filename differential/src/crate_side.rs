@@ -8,7 +8,7 @@ use naga::proc::{Conclusion, OverloadSet, Rule, TypeResolution};
 use naga::{Handle, Span};
 
 use crate::numbering::{self, FUNCTIONS, LAST_CODE, NONE, OPAQUE};
-use crate::ours;
+use crate::ours::{self, ChosenAnswer, ConsensusAnswer, Masked, Refused, RuleAnswer};
 
 /// A rule in type codes.
 #[derive(Clone, Debug, PartialEq, Eq)]
@@ -19,16 +19,15 @@ pub struct RuleCodes {
 
 impl RuleCodes {
     /// The rule in the form that the library answers it.
-    pub fn answer(&self) -> ours::Rule {
+    pub fn answer(&self) -> RuleAnswer {
         let mut arguments = [NONE; 4];
         arguments[..self.arguments.len()].copy_from_slice(&self.arguments);
-        ours::Rule { number: 0, arguments, count: self.arguments.len() as u8, result: self.result, place: 0 }
+        RuleAnswer { number: 0, arguments, count: self.arguments.len() as u8, result: self.result, place: 0 }
     }
 
     /// The rule in six bytes: four arguments, their count, the result.
     pub fn bytes(&self) -> [u8; 6] {
-        let ours::Rule { arguments: [a0, a1, a2, a3], count, result, .. } = self.answer();
-        [a0, a1, a2, a3, count, result]
+        self.answer().bytes()
     }
 
     /// The rule as the crate has it.
@@ -58,13 +57,13 @@ pub enum Refusal {
 /// A call's answer, and that to the question which rules survive it.
 #[derive(Clone, Copy, Debug, PartialEq, Eq)]
 pub struct Outcome {
-    pub call: ours::Call,
-    pub survivors: ours::Masked,
+    pub call: ChosenAnswer,
+    pub survivors: Masked,
 }
 
 impl Outcome {
     pub fn refused(number: u8, place: usize) -> Outcome {
-        Outcome { call: ours::Call::refused(number, place), survivors: ours::Masked::refused(number, place) }
+        Outcome { call: ChosenAnswer::refused(number, place), survivors: Masked::refused(number, place) }
     }
 }
 
@@ -179,8 +178,8 @@ impl Crate {
     fn accepted<S: OverloadSet>(&self, function: u8, set: &S) -> Outcome {
         let index = self.index(function, &set.most_preferred());
         let rule = &self.listing(function)[index as usize];
-        let survivors = ours::Masked::of(self.survivors(function, set), self.listing(function).len());
-        Outcome { call: ours::Call::chosen(index, rule.answer()), survivors }
+        let survivors = Masked::of(self.survivors(function, set), self.listing(function).len());
+        Outcome { call: ours::chosen(index, rule.answer()), survivors }
     }
 
     /// The first index in the function's full listing that holds this rule. Rules that are listed twice are alike in
@@ -208,11 +207,11 @@ impl Crate {
     }
 
     /// One rule, in the form that the library answers it.
-    pub fn rule(&self, function: u8, index: u8) -> ours::Rule {
+    pub fn rule(&self, function: u8, index: u8) -> RuleAnswer {
         let known = usize::from(function) < FUNCTIONS.len();
         match self.listing(function).get(index as usize) {
             Some(rule) => rule.answer(),
-            None => ours::Rule::refused(7, usize::from(known)),
+            None => RuleAnswer::refused(7, usize::from(known)),
         }
     }
 
@@ -265,20 +264,20 @@ impl Asker<'_> {
     }
 
     /// A consensus, with the tests that document 01 puts before the crate's.
-    pub fn consensus(&self, base: u8, components: &[u8]) -> ours::Consensus {
+    pub fn consensus(&self, base: u8, components: &[u8]) -> ConsensusAnswer {
         if base != NONE && base >= numbering::SCALAR_COUNT {
-            return ours::Consensus::refused(7, 0);
+            return ConsensusAnswer::refused(7, 0);
         }
         if let Some(unknown) = components.iter().position(|&code| code > LAST_CODE) {
-            return ours::Consensus::refused(7, 1 + unknown);
+            return ConsensusAnswer::refused(7, 1 + unknown);
         }
         if base == NONE && components.is_empty() {
-            return ours::Consensus::refused(11, 0);
+            return ConsensusAnswer::refused(11, 0);
         }
         let base = (base != NONE).then(|| numbering::scalar(base));
         match self.ask(base, &self.expressions(components)) {
-            Ok(scalar) => ours::Consensus::agreed(numbering::scalar_number(scalar)),
-            Err(component) => ours::Consensus::refused(12, component),
+            Ok(scalar) => ours::agreed(numbering::scalar_number(scalar)),
+            Err(component) => ConsensusAnswer::refused(12, component),
         }
     }
 }

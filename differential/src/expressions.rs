@@ -4,7 +4,7 @@
 
 use crate::crate_side::{Crate, Refusal};
 use crate::numbering::{FUNCTIONS, LAST_LEAF};
-use crate::ours::Typed;
+use crate::ours::{self, Refused, TypeAnswer};
 
 /// The room that suffices for every worksheet: 64 leaves and calls, and 63 conversions.
 pub const ENOUGH_ROOM: usize = 508;
@@ -32,27 +32,27 @@ struct Work<'a> {
 }
 
 /// Types an expression where there is room for any worksheet: its answer and its worksheet, empty on a refusal.
-pub fn type_expression(rules: &Crate, bytes: &[u8], concrete_only: bool) -> (Typed, Vec<u8>) {
+pub fn type_expression(rules: &Crate, bytes: &[u8], concrete_only: bool) -> (TypeAnswer, Vec<u8>) {
     let typed = read(bytes).and_then(|nodes| {
         let mut work = Work { rules, concrete_only, nodes: nodes.iter(), sheet: Vec::with_capacity(ENOUGH_ROOM) };
         let (_, type_code) = work.next_node()?;
-        Ok((Typed::accepted(type_code), work.sheet))
+        Ok((ours::typed(type_code, work.sheet.len()), work.sheet))
     });
     typed.unwrap_or_else(|refusal| (refusal, Vec::new()))
 }
 
 /// The same answer where the buffer has that room, which is tested last.
-pub fn in_room((typed, sheet): &(Typed, Vec<u8>), room: usize) -> (Typed, &[u8]) {
+pub fn in_room((typed, sheet): &(TypeAnswer, Vec<u8>), room: usize) -> (TypeAnswer, &[u8]) {
     if sheet.len() > room {
-        (Typed::refused(10, sheet.len()), &[])
+        (TypeAnswer::refused(10, sheet.len()), &[])
     } else {
         (*typed, sheet)
     }
 }
 
 /// The first pass: nodes in the order of their tags, or the first fault.
-fn read(bytes: &[u8]) -> Result<Vec<Node>, Typed> {
-    let present = |offset: usize| bytes.get(offset).copied().ok_or(Typed::refused(8, offset));
+fn read(bytes: &[u8]) -> Result<Vec<Node>, TypeAnswer> {
+    let present = |offset: usize| bytes.get(offset).copied().ok_or(TypeAnswer::refused(8, offset));
     let mut nodes = Vec::with_capacity(MOST_NODES);
     let mut offset = 0;
     // For each node on the way to the next one, how many of its arguments are unread. The root is the one argument of
@@ -66,13 +66,13 @@ fn read(bytes: &[u8]) -> Result<Vec<Node>, Typed> {
         *left -= 1;
         let tag = present(offset)?;
         if nodes.len() == MOST_NODES || unread.len() > DEEPEST {
-            return Err(Typed::refused(9, offset));
+            return Err(TypeAnswer::refused(9, offset));
         }
         match tag {
             0 => {
                 let leaf = present(offset + 1)?;
                 if leaf > LAST_LEAF {
-                    return Err(Typed::refused(7, offset + 1));
+                    return Err(TypeAnswer::refused(7, offset + 1));
                 }
                 nodes.push(Node { offset, kind: Kind::Leaf(leaf) });
                 offset += 2;
@@ -80,25 +80,25 @@ fn read(bytes: &[u8]) -> Result<Vec<Node>, Typed> {
             1 => {
                 let function = present(offset + 1)?;
                 if usize::from(function) >= FUNCTIONS.len() {
-                    return Err(Typed::refused(7, offset + 1));
+                    return Err(TypeAnswer::refused(7, offset + 1));
                 }
                 let arguments = present(offset + 2)?;
                 nodes.push(Node { offset, kind: Kind::Call { function, arguments } });
                 unread.push(arguments);
                 offset += 3;
             }
-            _ => return Err(Typed::refused(8, offset)),
+            _ => return Err(TypeAnswer::refused(8, offset)),
         }
     }
     if offset < bytes.len() {
-        return Err(Typed::refused(8, offset));
+        return Err(TypeAnswer::refused(8, offset));
     }
     Ok(nodes)
 }
 
 impl Work<'_> {
     /// The second pass over the next node and what is under it: where it stands and its type.
-    fn next_node(&mut self) -> Result<(usize, u8), Typed> {
+    fn next_node(&mut self) -> Result<(usize, u8), TypeAnswer> {
         let node = self.nodes.next().expect("the first pass read every argument");
         let type_code = match node.kind {
             Kind::Leaf(code) => {
@@ -110,7 +110,7 @@ impl Work<'_> {
         Ok((node.offset, type_code))
     }
 
-    fn call(&mut self, offset: usize, function: u8, arguments: u8) -> Result<u8, Typed> {
+    fn call(&mut self, offset: usize, function: u8, arguments: u8) -> Result<u8, TypeAnswer> {
         let mut offsets = Vec::new();
         let mut operands = Vec::new();
         for _ in 0..arguments {
@@ -120,9 +120,9 @@ impl Work<'_> {
         }
         let preferred =
             self.rules.preferred(function, &operands, self.concrete_only).map_err(|refusal| match refusal {
-                Refusal::Count => Typed::refused(5, offset),
-                Refusal::Argument(argument) => Typed::refused(6, offsets[argument]),
-                Refusal::Empty => Typed::refused(1, offset),
+                Refusal::Count => TypeAnswer::refused(5, offset),
+                Refusal::Argument(argument) => TypeAnswer::refused(6, offsets[argument]),
+                Refusal::Empty => TypeAnswer::refused(1, offset),
             })?;
         let index = self.rules.index(function, &preferred);
         let rule = &self.rules.listing(function)[usize::from(index)];

@@ -11,6 +11,23 @@ use crate::machine::{self, LINE};
 use crate::numbering::{FUNCTIONS, LAST_CODE, LAST_LEAF, OPAQUE, SCALAR_COUNT};
 use crate::random::Random;
 
+/// The next tuple of codes in ascending order; false after the last.
+pub fn next_tuple(operands: &mut [u8]) -> bool {
+    for operand in operands.iter_mut().rev() {
+        if *operand < LAST_CODE {
+            *operand += 1;
+            return true;
+        }
+        *operand = 0;
+    }
+    false
+}
+
+/// A known type code.
+pub fn any_code(random: &mut Random) -> u8 {
+    random.below(usize::from(LAST_CODE) + 1) as u8
+}
+
 /// A function and the operands that it accepts, with the switch off.
 pub struct Accepted {
     pub function: u8,

@@ -4,7 +4,7 @@
 
 use crate::crate_side::{Crate, RuleCodes};
 use crate::numbering::{LAST_LEAF, NONE, OPAQUE, SCALAR_COUNT};
-use crate::ours::Run;
+use crate::ours::{self, RunAnswer};
 
 /// The bytes of a line.
 pub const LINE: usize = 4;
@@ -13,14 +13,14 @@ pub const LINE: usize = 4;
 const MOST_OPERANDS: usize = 64;
 
 /// Runs a worksheet.
-pub fn run(rules: &Crate, sheet: &[u8]) -> Run {
+pub fn run(rules: &Crate, sheet: &[u8]) -> RunAnswer {
     let mut stack = Vec::new();
     for (line, bytes) in sheet.chunks(LINE).enumerate() {
         if obey(rules, bytes, &mut stack).is_none() {
-            return Run::stopped(line);
+            return ours::stopped(line);
         }
     }
-    Run::ended(stack.len(), stack.last().copied().unwrap_or(NONE))
+    ours::ended(stack.len(), stack.last().copied().unwrap_or(NONE))
 }
 
 /// Obeys one line, or stops.

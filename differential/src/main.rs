@@ -7,6 +7,7 @@ mod bench;
 mod calls;
 mod compare;
 mod crate_side;
+mod effort;
 mod expressions;
 mod generate;
 mod machine;

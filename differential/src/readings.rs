@@ -5,7 +5,7 @@
 use crate::crate_side::{Asker, Crate, Outcome, RuleCodes};
 use crate::expressions;
 use crate::numbering::NONE;
-use crate::ours::{self, Call, Consensus, Masked, Typed, LENT};
+use crate::ours::{self, ConsensusAnswer, Masked, Refused, TypeAnswer, LENT};
 
 /// A question, the document's answer, and those of the crate's side and ours, all in the same words.
 pub struct Reading {
@@ -25,7 +25,7 @@ pub fn readings(rules: &Crate) -> Vec<Reading> {
 fn calls(rules: &Crate) -> Vec<Reading> {
     // The rule's index, arguments and result; the survivors, among so many rules.
     let accepted = |index: u8, arguments: &[u8], result: u8, survivors: u64, rules: usize| Outcome {
-        call: Call::chosen(index, RuleCodes { arguments: arguments.to_vec(), result }.answer()),
+        call: ours::chosen(index, RuleCodes { arguments: arguments.to_vec(), result }.answer()),
         survivors: Masked::of(survivors, rules),
     };
     let table: [(&str, u8, &[u8], Outcome); 8] = [
@@ -52,12 +52,12 @@ fn calls(rules: &Crate) -> Vec<Reading> {
 }
 
 fn consensus(asker: &Asker) -> Vec<Reading> {
-    let table: [(u8, &[u8], Consensus); 3] = [
-        (NONE, &[0, 5, 1], Consensus::refused(12, 2)),
-        (NONE, &[0, 8, 1], Consensus::agreed(8)),
-        (1, &[2], Consensus::refused(12, 0)),
+    let table: [(u8, &[u8], ConsensusAnswer); 3] = [
+        (NONE, &[0, 5, 1], ConsensusAnswer::refused(12, 2)),
+        (NONE, &[0, 8, 1], ours::agreed(8)),
+        (1, &[2], ConsensusAnswer::refused(12, 0)),
     ];
-    let ask = |(base, components, printed): (u8, &[u8], Consensus)| Reading {
+    let ask = |(base, components, printed): (u8, &[u8], ConsensusAnswer)| Reading {
         question: format!("consensus of {components:?}, base {base}"),
         printed: format!("{printed:?}"),
         of_crate: format!("{:?}", asker.consensus(base, components)),
@@ -72,22 +72,22 @@ fn typing(rules: &Crate) -> Vec<Reading> {
     let room = expressions::ENOUGH_ROOM;
     let printed = |bytes, room, typed, sheet| Expression { bytes, room, typed, sheet };
     let table = [
-        printed(vec![], room, Typed::refused(8, 0), None),
-        printed(vec![0, 156], room, Typed::accepted(156), Some(vec![0, 156, 0, 0])),
-        printed(vec![0, 157], room, Typed::refused(7, 1), None),
-        printed(clamp.clone(), room, Typed::accepted(5), Some(clamp_sheet.clone())),
-        printed(clamp.clone(), 24, Typed::accepted(5), Some(clamp_sheet)),
-        printed(clamp, 23, Typed::refused(10, 24), None),
+        printed(vec![], room, TypeAnswer::refused(8, 0), None),
+        printed(vec![0, 156], room, ours::typed(156, 4), Some(vec![0, 156, 0, 0])),
+        printed(vec![0, 157], room, TypeAnswer::refused(7, 1), None),
+        printed(clamp.clone(), room, ours::typed(5, 24), Some(clamp_sheet.clone())),
+        printed(clamp.clone(), 24, ours::typed(5, 24), Some(clamp_sheet)),
+        printed(clamp, 23, TypeAnswer::refused(10, 24), None),
         // Pow(Distance(1, 1), 9): Distance has already answered F32.
-        printed(vec![1, 32, 2, 1, 66, 2, 0, 1, 0, 1, 0, 9], room, Typed::refused(6, 10), None),
-        printed(vec![1, 78, 4, 0, 2, 0, 2, 0, 5, 0, 5], room, Typed::accepted(2), None),
-        printed(vec![1, 79, 0], room, Typed::refused(7, 1), None),
-        printed(chain(16), room, Typed::accepted(8), None),
-        printed(chain(17), room, Typed::refused(9, 48), None),
-        printed(tree(1), room, Typed::accepted(8), None),
-        printed(tree(2), room, Typed::refused(9, 161), None),
-        printed(tree(1), 256, Typed::accepted(8), None),
-        printed(tree(1), 255, Typed::refused(10, 256), None),
+        printed(vec![1, 32, 2, 1, 66, 2, 0, 1, 0, 1, 0, 9], room, TypeAnswer::refused(6, 10), None),
+        printed(vec![1, 78, 4, 0, 2, 0, 2, 0, 5, 0, 5], room, ours::typed(2, 20), None),
+        printed(vec![1, 79, 0], room, TypeAnswer::refused(7, 1), None),
+        printed(chain(16), room, ours::typed(8, 64), None),
+        printed(chain(17), room, TypeAnswer::refused(9, 48), None),
+        printed(tree(1), room, ours::typed(8, 256), None),
+        printed(tree(2), room, TypeAnswer::refused(9, 161), None),
+        printed(tree(1), 256, ours::typed(8, 256), None),
+        printed(tree(1), 255, TypeAnswer::refused(10, 256), None),
     ];
     table.into_iter().map(|expression| expression.ask(rules)).collect()
 }
@@ -96,7 +96,7 @@ fn typing(rules: &Crate) -> Vec<Reading> {
 struct Expression {
     bytes: Vec<u8>,
     room: usize,
-    typed: Typed,
+    typed: TypeAnswer,
     sheet: Option<Vec<u8>>,
 }
 
@@ -115,7 +115,7 @@ impl Expression {
     }
 
     /// An answer in words, with as much of the worksheet as is printed.
-    fn words(&self, typed: Typed, written: &[u8]) -> String {
+    fn words(&self, typed: TypeAnswer, written: &[u8]) -> String {
         let printed = self.sheet.as_ref().map_or(0, Vec::len);
         format!("{typed:?} {:?}", &written[..written.len().min(printed)])
     }

@@ -3,10 +3,10 @@
 
 use naga::proc::overloads_oracle::Hand;
 
-use crate::calls::any_code;
 use crate::crate_side::{rule_codes, Crate, RuleCodes};
+use crate::generate::any_code;
 use crate::numbering::{LAST_CODE, OPAQUE, SCALAR_COUNT};
-use crate::ours::{self, mask_bytes, Call, List, Masked, Regular, RegularAnswer, LENT};
+use crate::ours::{self, mask_bytes, ChosenAnswer, List, Masked, Refused, Regular, RegularAnswer, RuleAnswer, LENT};
 use crate::random::Random;
 use crate::tally::{grouped, Tally};
 
@@ -118,7 +118,7 @@ fn compare_regular(rules: &Crate, tally: &mut Tally, random: &mut Random) {
         };
         let (arity, constructors, scalars, conclusion) = hand.parts().expect("a step leaves a set of its kind");
         let expected = Regular { arity: arity as u8, constructors, scalars, conclusion };
-        tally.check(expected.answer(), left, told);
+        tally.check(ours::left(expected), left, told);
         ours = expected;
         compare_regular_questions(rules, tally, ours, &hand);
     }
@@ -128,19 +128,19 @@ fn compare_refused_regular(tally: &mut Tally, set: Regular, number: u8) {
     let told = || format!("{set:?}");
     tally.check(RegularAnswer::refused(number, 0), set.arg(0, 8), told);
     tally.check(RegularAnswer::refused(number, 0), set.concrete_only(), told);
-    tally.check(ours::Rule::refused(number, 0), set.preferred(), told);
-    tally.check(ours::Rule::refused(number, 0), set.rule(0), told);
+    tally.check(RuleAnswer::refused(number, 0), set.preferred(), told);
+    tally.check(RuleAnswer::refused(number, 0), set.rule(0), told);
 }
 
 /// The preferred rule, the listing, and the index behind it.
 fn compare_regular_questions(rules: &Crate, tally: &mut Tally, set: Regular, hand: &Hand) {
     let types = regular_types(set);
     let preferred = if types.is_empty() {
-        ours::Rule::refused(1, 0)
+        RuleAnswer::refused(1, 0)
     } else if set.constructors.count_ones() > 1 {
-        ours::Rule::refused(2, 0)
+        RuleAnswer::refused(2, 0)
     } else if !concludes(set.conclusion, types[0]) {
-        ours::Rule::refused(13, 0)
+        RuleAnswer::refused(13, 0)
     } else {
         rule_codes(&hand.most_preferred()).answer()
     };
@@ -151,9 +151,9 @@ fn compare_regular_questions(rules: &Crate, tally: &mut Tally, set: Regular, han
         for (index, rule) in (0u8..).zip(&listing) {
             tally.check(rule.answer(), set.rule(index), told);
         }
-        tally.check(ours::Rule::refused(7, 1), set.rule(listing.len() as u8), told);
+        tally.check(RuleAnswer::refused(7, 1), set.rule(listing.len() as u8), told);
     } else {
-        tally.check(ours::Rule::refused(13, 0), set.rule(0), told);
+        tally.check(RuleAnswer::refused(13, 0), set.rule(0), told);
     }
 }
 
@@ -254,9 +254,13 @@ fn compare_list(rules: &Crate, tally: &mut Tally, random: &mut Random) {
         Err((number, place)) => {
             let told = || format!("the List {:?} with members {:?}", list.bytes, list.members);
             let room = random.below(LENT + 1);
-            tally.check(Masked::refused(number, place), list.list().arg(0, 8, room), told);
-            tally.check(Masked::refused(number, place), list.list().concrete_only(room), told);
-            tally.check(Call::refused(number, place), list.list().preferred(), told);
+            tally.check(Masked::refused(number, place), Masked::asked(room, |out| list.list().arg(0, 8, out)), told);
+            tally.check(
+                Masked::refused(number, place),
+                Masked::asked(room, |out| list.list().concrete_only(out)),
+                told,
+            );
+            tally.check(ChosenAnswer::refused(number, place), list.list().preferred(), told);
             return;
         }
     };
@@ -266,9 +270,11 @@ fn compare_list(rules: &Crate, tally: &mut Tally, random: &mut Random) {
     compare_list_preferred(tally, &list, &listed, &hand);
     for _ in 0..random.below(7) {
         let step = any_step(random, &types);
-        let ask = |room: usize| match step {
-            Step::Argument(index, code) => list.list().arg(index, code, room),
-            Step::ConcreteOnly => list.list().concrete_only(room),
+        let ask = |room: usize| {
+            Masked::asked(room, |out| match step {
+                Step::Argument(index, code) => list.list().arg(index, code, out),
+                Step::ConcreteOnly => list.list().concrete_only(out),
+            })
         };
         let told = || format!("the List {:?} with members {:?} and {step:?}", list.bytes, list.members);
         hand = match step {
@@ -302,11 +308,11 @@ fn compare_list_preferred(tally: &mut Tally, list: &ByteList, listed: &[RuleCode
     let told = || format!("the preferred rule of the List {:?} with members {:?}", list.bytes, list.members);
     let answer = list.list().preferred();
     if hand.is_empty() {
-        tally.check(Call::refused(1, 0), answer, told);
+        tally.check(ChosenAnswer::refused(1, 0), answer, told);
         return;
     }
     let rule = rule_codes(&hand.most_preferred());
     let first = (0..listed.len()).find(|k| list.members[k / 8] >> (k % 8) & 1 == 1).expect("a member is left");
-    let expected = Call::chosen(first as u8, rule.answer());
+    let expected = ours::chosen(first as u8, rule.answer());
     tally.check((expected, Some(&rule)), (answer, listed.get(usize::from(answer.index))), told);
 }

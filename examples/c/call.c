@@ -1,51 +1,211 @@
-/* Resolves Clamp(ABSTRACT_INT, U32, ABSTRACT_INT), types the same as an expression and runs its worksheet.
- *
- * From the repository's root, after `rt staticlib bindings`:
- *
- *     cc -Wall -I include examples/c/call.c target/staticlib/libbindings.a -o target/call && target/call
+/* Asks the library questions of each kind, and prints the answers. examples/rust prints the same lines from Rust;
+ * `examples/run` builds both, runs them and compares.
  */
 #include <stdio.h>
+#include <string.h>
 
 #include "azwukran.h"
 
-enum { CLAMP = 4, ABSTRACT_INT = 0, U32 = 5, ENOUGH_ROOM = 508, ENOUGH_MASK = 8, LINE = 4 };
+/* Functions and types by number. */
+enum { CLAMP = 4, SIN = 5, POW = 32, DISTANCE = 66, MIX = 72, TRANSPOSE = 74 };
+enum { ABSTRACT_INT = 0, ABSTRACT_FLOAT = 1, U32 = 5, F32 = 8, F16 = 9, VEC2_F32 = 20, NONE = 255 };
 
-int main(void) {
-    const uint8_t operands[] = {ABSTRACT_INT, U32, ABSTRACT_INT};
-    azwukran_chosen_answer call = azwukran_call(CLAMP, operands, sizeof operands, 0);
-    printf("Clamp(0, 5, 0): number %u, index %u, result %u, %u arguments, place %zu\n", call.number, call.index, call.result,
-           call.count, call.place);
+/* Bytes of every worksheet, of every mask, of a worksheet's line and of a List's rule; the most rules of a List; and what
+ * stands in lent bytes before they are written. */
+enum { ENOUGH_ROOM = 508, ENOUGH_MASK = 8, LINE = 4, RULE = 6, MOST_RULES = 63, FILL = 165 };
 
-    uint8_t survivors[ENOUGH_MASK];
-    azwukran_mask_answer left = azwukran_survivors(CLAMP, operands, sizeof operands, 0, survivors, sizeof survivors);
-    printf("survivors:");
-    for (unsigned rule = 0; left.number == AZWUKRAN_ACCEPTED && azwukran_rule(CLAMP, rule).number == 0; rule++) {
-        if (survivors[rule / 8] >> rule % 8 & 1) {
-            printf(" %u", rule);
+/* Prints the refusal, if there is one. */
+static int refused(uint8_t number, size_t place) {
+    if (number != AZWUKRAN_ACCEPTED) {
+        printf("refusal %u at %zu\n", number, place);
+    }
+    return number != AZWUKRAN_ACCEPTED;
+}
+
+/* Prints numbers with spaces between them. */
+static void print_listed(const uint8_t *numbers, size_t n) {
+    for (size_t k = 0; k < n; k++) {
+        printf("%s%u", k == 0 ? "" : " ", numbers[k]);
+    }
+}
+
+static void print_rule(const uint8_t *arguments, uint8_t count, uint8_t result) {
+    print_listed(arguments, count);
+    printf(" -> %u", result);
+}
+
+static void print_members(const uint8_t *mask, size_t n) {
+    const char *before = "";
+    for (size_t rule = 0; rule < 8 * n; rule++) {
+        if (mask[rule / 8] >> rule % 8 & 1) {
+            printf("%s%zu", before, rule);
+            before = " ";
         }
     }
+}
+
+/* A call and the rules that survive it. */
+static void show_call(const char *name, uint8_t function, const uint8_t *operands, size_t n, uint8_t concrete_only) {
+    printf("%s of ", name);
+    print_listed(operands, n);
+    printf("%s: ", concrete_only ? ", concrete only" : "");
+    azwukran_chosen_answer call = azwukran_call(function, operands, n, concrete_only);
+    if (refused(call.number, call.place)) {
+        return;
+    }
+    uint8_t mask[ENOUGH_MASK] = {0};
+    azwukran_mask_answer left = azwukran_survivors(function, operands, n, concrete_only, mask, sizeof mask);
+    if (refused(left.number, left.place)) {
+        return;
+    }
+    printf("rule %u, ", call.index);
+    print_rule(call.arguments, call.count, call.result);
+    printf("; survivors ");
+    print_members(mask, sizeof mask);
     printf("\n");
+}
 
-    azwukran_rule_answer rule = azwukran_rule(CLAMP, call.index);
-    printf("rule: %u %u %u -> %u\n", rule.arguments[0], rule.arguments[1], rule.arguments[2], rule.result);
+/* Prints a rule behind a question, or the refusal. */
+static void show_rule(const char *question, azwukran_rule_answer rule) {
+    printf("%s: ", question);
+    if (!refused(rule.number, rule.place)) {
+        print_rule(rule.arguments, rule.count, rule.result);
+        printf("\n");
+    }
+}
 
-    azwukran_consensus_answer consensus = azwukran_consensus(255, operands, sizeof operands);
-    printf("consensus: number %u, scalar %u\n", consensus.number, consensus.scalar);
+static void show_consensus(uint8_t base, const uint8_t *components, size_t n) {
+    printf("consensus of ");
+    print_listed(components, n);
+    printf(", base %u: ", base);
+    azwukran_consensus_answer consensus = azwukran_consensus(base, components, n);
+    if (!refused(consensus.number, consensus.place)) {
+        printf("scalar %u\n", consensus.scalar);
+    }
+}
 
-    /* Without room the answer is refusal 10, and its place is the worksheet's length. */
-    const uint8_t expression[] = {1, CLAMP, 3, 0, ABSTRACT_INT, 0, U32, 0, ABSTRACT_INT};
+static void show_run(const char *question, const uint8_t *sheet, size_t n) {
+    azwukran_run_answer run = azwukran_run(sheet, n);
+    if (run.number == AZWUKRAN_STOPPED) {
+        printf("%s: stopped at line %zu\n", question, run.place);
+    } else {
+        printf("%s: ended, operands %zu, top %u\n", question, run.operands, run.top);
+    }
+}
+
+/* An expression's type, its worksheet, and how that runs, whole and without its first line. */
+static void show_expression(const uint8_t *bytes, size_t n) {
+    printf("expression ");
+    print_listed(bytes, n);
+    printf(": ");
     uint8_t sheet[ENOUGH_ROOM];
-    size_t length = azwukran_type(expression, sizeof expression, 0, sheet, 0).place;
-    azwukran_type_answer typed = azwukran_type(expression, sizeof expression, 0, sheet, sizeof sheet);
-    printf("expression: number %u, place %zu, type %u\n", typed.number, typed.place, typed.type);
-    if (typed.number != AZWUKRAN_ACCEPTED) {
-        return 1;
+    azwukran_type_answer typed = azwukran_type(bytes, n, 0, sheet, sizeof sheet);
+    if (refused(typed.number, typed.place)) {
+        return;
     }
+    size_t length = typed.length;
+    printf("type %u, worksheet of %zu bytes\n", typed.type, length);
     for (size_t line = 0; line < length; line += LINE) {
-        printf("  %u %u %u %u\n", sheet[line], sheet[line + 1], sheet[line + 2], sheet[line + 3]);
+        printf("  ");
+        print_listed(sheet + line, LINE);
+        printf("\n");
     }
-    azwukran_run_answer run = azwukran_run(sheet, length);
-    printf("machine: %s, %zu operand left, of type %u\n", run.number == AZWUKRAN_STOPPED ? "stopped" : "ended", run.operands,
-           run.top);
-    return run.number;
+    show_run("machine", sheet, length);
+    show_run("machine, without the first line", sheet + LINE, length - LINE);
+}
+
+/* Prints a Regular set behind a question, or the refusal. */
+static void show_set(const char *question, azwukran_regular_answer set) {
+    printf("%s: ", question);
+    if (!refused(set.number, set.place)) {
+        printf("arity %u, constructors %u, scalars %u, conclusion %u\n", set.arity, set.constructors, set.scalars,
+               set.conclusion);
+    }
+}
+
+/* A Regular set, what two steps leave of it, and its rules. */
+static void show_regular(uint8_t arity, uint16_t constructors, uint16_t scalars, uint8_t conclusion) {
+    azwukran_regular_answer set = {0, arity, constructors, scalars, conclusion, 0};
+    show_set("Regular set", set);
+    show_rule("  preferred", azwukran_regular_preferred(arity, constructors, scalars, conclusion));
+    show_rule("  rule 5", azwukran_regular_rule(arity, constructors, scalars, conclusion, 5));
+    show_set("  concrete only", azwukran_regular_concrete_only(arity, constructors, scalars, conclusion));
+    azwukran_regular_answer left = azwukran_regular_arg(arity, constructors, scalars, conclusion, 0, VEC2_F32);
+    show_set("  argument 0 of type 20", left);
+    if (left.number == AZWUKRAN_ACCEPTED) {
+        show_rule("  preferred then",
+                  azwukran_regular_preferred(left.arity, left.constructors, left.scalars, left.conclusion));
+    }
+}
+
+/* Prints the bytes lent for a mask behind a question, or the refusal. */
+static void show_lent(const char *question, azwukran_mask_answer answer, const uint8_t *lent, size_t n) {
+    printf("%s: ", question);
+    if (!refused(answer.number, answer.place)) {
+        print_listed(lent, n);
+        printf("\n");
+    }
+}
+
+/* The rules of a function as a List, and what an argument and the concrete-only step leave of it. A step lends eight bytes
+ * for its mask; those behind it keep what they held. */
+static void show_list(const char *name, uint8_t function) {
+    uint8_t rules[MOST_RULES * RULE];
+    size_t n = 0;
+    for (uint8_t index = 0; index < MOST_RULES; index++) {
+        azwukran_rule_answer rule = azwukran_rule(function, index);
+        if (rule.number != AZWUKRAN_ACCEPTED) {
+            break;
+        }
+        memcpy(rules + n, rule.arguments, sizeof rule.arguments);
+        rules[n + 4] = rule.count;
+        rules[n + 5] = rule.result;
+        n += RULE;
+    }
+    /* All of its 32 rules. */
+    const uint8_t members[] = {0xff, 0xff, 0xff, 0xff};
+    printf("List: %s, %zu bytes of rules\n", name, n);
+    uint8_t lent[ENOUGH_MASK];
+    memset(lent, FILL, sizeof lent);
+    show_lent("  argument 0 of type 20, no room",
+              azwukran_list_arg(rules, n, members, sizeof members, 0, VEC2_F32, lent, 0), lent, 0);
+    azwukran_mask_answer left =
+        azwukran_list_arg(rules, n, members, sizeof members, 0, VEC2_F32, lent, sizeof lent);
+    show_lent("  argument 0 of type 20", left, lent, sizeof lent);
+    azwukran_chosen_answer preferred = azwukran_list_preferred(rules, n, lent, sizeof lent);
+    printf("  preferred then: ");
+    if (!refused(preferred.number, preferred.place)) {
+        printf("rule %u, ", preferred.index);
+        print_rule(preferred.arguments, preferred.count, preferred.result);
+        printf("\n");
+    }
+    memset(lent, FILL, sizeof lent);
+    left = azwukran_list_concrete_only(rules, n, members, sizeof members, lent, sizeof lent);
+    show_lent("  concrete only", left, lent, sizeof lent);
+}
+
+int main(void) {
+    const uint8_t clamped[] = {ABSTRACT_INT, U32, ABSTRACT_INT};
+    const uint8_t angle[] = {ABSTRACT_INT};
+    const uint8_t mixed[] = {F32, F32, F32};
+    const uint8_t unlike[] = {F32, F16};
+    show_call("Clamp", CLAMP, clamped, sizeof clamped, 0);
+    show_call("Sin", SIN, angle, sizeof angle, 0);
+    show_call("Sin", SIN, angle, sizeof angle, 1);
+    show_call("Mix", MIX, mixed, sizeof mixed, 0);
+    show_call("Pow", POW, unlike, sizeof unlike, 0);
+    show_rule("rule 4 of Transpose", azwukran_rule(TRANSPOSE, 4));
+    show_rule("rule 36 of Transpose", azwukran_rule(TRANSPOSE, 36));
+    const uint8_t floats[] = {ABSTRACT_INT, F32, ABSTRACT_FLOAT};
+    const uint8_t no_floats[] = {ABSTRACT_INT, U32, ABSTRACT_FLOAT};
+    show_consensus(NONE, floats, sizeof floats);
+    show_consensus(NONE, no_floats, sizeof no_floats);
+    const uint8_t clamp[] = {1, CLAMP, 3, 0, ABSTRACT_INT, 0, U32, 0, ABSTRACT_INT};
+    const uint8_t power[] = {1, POW, 2, 1, DISTANCE, 2, 0, ABSTRACT_FLOAT, 0, ABSTRACT_FLOAT, 0, F16};
+    show_expression(clamp, sizeof clamp);
+    show_expression(power, sizeof power);
+    /* Pow's rules: two arguments of one type, scalar or vector, of a float. */
+    show_regular(2, 0xf, 0x702, 0);
+    show_list("Mix", MIX);
+    return 0;
 }

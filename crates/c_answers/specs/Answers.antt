@@ -20,16 +20,15 @@ ruleForC p =
 
 -- a Regular set: the arity, the masks of constructors and scalars, the conclusion's number
 unfoldable pub regularForC : Paper → RegularForC
-regularForC p =
-    record { number = number p; arity = value 0 p; constructors = value 1 p; scalars = value 2 p; conclusion = value 3 p; place = place p }
+regularForC p = record { number = number p; arity = value 0 p; constructors = value 1 p; scalars = value 2 p; conclusion = value 3 p; place = place p }
 
 -- a consensus: its scalar; the giver's kind and number are kept free
 unfoldable pub consensusForC : Paper → ConsensusForC
 consensusForC p = record { number = number p; scalar = value 0 p; giver = 255; component = 255; place = place p }
 
--- the type of an expression; the mark is kept free
+-- the type of an expression, and its worksheet's length; the mark is kept free
 unfoldable pub typeForC : Paper → TypeForC
-typeForC p = record { number = number p; code = value 0 p; mark = 255; place = place p }
+typeForC p = record { number = number p; code = value 0 p; mark = 255; length = value 1 p; place = place p }
 
 -- a run: how many operands are left, and the topmost one's type; the mark is kept free
 unfoldable pub runForC : Paper → RunForC

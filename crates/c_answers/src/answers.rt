@@ -56,13 +56,15 @@ pub struct ConsensusForC {
     pub place: usize,
 }
 
-// The type of an expression.
+// The type of an expression, and its worksheet's length.
 #[repr(C)]
 pub struct TypeForC {
     pub number: u8,
     pub code: u8,
     // Kept free for whether the expression is constant or measured.
     pub mark: u8,
+    // How many bytes the worksheet takes.
+    pub length: usize,
     pub place: usize,
 }
 

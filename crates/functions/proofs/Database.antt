@@ -15,13 +15,13 @@ use Rattle.scalars.specs.Mask.{choose, both, every, digit, bits}
 use Rattle.scalars.specs.Domain.{value?, known?}
 use Rattle.rules.specs.Signature.{Signature}
 use Rattle.rules.specs.Verdict.{longest}
-use Rattle.domain.specs.TypeCode.{predeclaredCode}
+use Rattle.types.specs.TypeCode.{predeclaredCode}
 use Rattle.regular.specs.SetPaper.{noSet}
 use Rattle.regular.specs.Regular.{regularRules, codesOf, concludedOf, allConclude}
-use Rattle.listed.specs.Sequences.{floatScalars, concreteFloatScalars, concreteIntScalars, vectorSizes, vector, matrix, scalarOrVecn}
+use Rattle.functions.specs.Sequences.{floatScalars, concreteFloatScalars, concreteIntScalars, vectorSizes, vector, matrix, scalarOrVecn}
 use Rattle.rules.specs.Rule.{mostArguments}
 use Rattle.rules.proofs.Records.{short?}
-use Rattle.listed.specs.ListedRules.{listedRules}
+use Rattle.functions.specs.ListedRules.{listedRules}
 use Rattle.functions.specs.Functions.{functionCount, functionSets, functionSetOf, setOfFunction, rulesIn, listingOf, ruleIn, ruleAt}
 use Rattle.functions.specs.FunctionPaper.{functionPaper}
 use Rattle.functions.specs.private.Built.{Built}
@@ -31,7 +31,7 @@ use Rattle.scalars.specs.Paper.{refusal}
 use Rattle.rules.specs.RulePaper.{noRule}
 use Rattle.regular.specs.declared.regular.Regular.{Regular}
 use Rattle.scalars.proofs.Prefixes.{every-at, both-true}
-use Rattle.listed.proofs.Runs.{run-at}
+use Rattle.functions.proofs.Runs.{run-at}
 
 -- ---- a set by its function's number
 

@@ -13,8 +13,8 @@ use Rattle.regular.specs.SetPaper.{conclusionOf}
 use Rattle.regular.proofs.SetPapers.{conclusion-back}
 use Rattle.functions.specs.declared.mathfunction.FunctionSet.{FunctionSet}
 use Rattle.functions.specs.declared.mathfunction.FunctionSet.the-variants.{Regular, List, Unknown}
-use Rattle.listed.specs.declared.listed_rules.Listed.{Listed}
-use Rattle.listed.specs.declared.listed_rules.Listed.the-variants.{Ldexp, Outer, Refract, Mix, Transpose, ExtractBits, InsertBits}
+use Rattle.functions.specs.declared.listed_rules.Listed.{Listed}
+use Rattle.functions.specs.declared.listed_rules.Listed.the-variants.{Ldexp, Outer, Refract, Mix, Transpose, ExtractBits, InsertBits}
 use Rattle.functions.specs.FunctionPaper.{listedNumber, functionPaper}
 use Rattle.functions.specs.Functions.{functionSetOf, setOfFunction}
 use Rattle.functions.proofs.Database.{set-of}

@@ -4,3 +4,5 @@ pub mod Ranks
 pub mod Database
 pub mod FunctionPapers
 pub mod RuleTotals
+pub mod Runs
+pub mod Places

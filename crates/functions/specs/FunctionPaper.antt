@@ -6,8 +6,8 @@ use Rattle.scalars.specs.Paper.{Paper, accepted, refusal}
 use Rattle.regular.specs.SetPaper.{regularValues, noSet}
 use Rattle.functions.specs.declared.mathfunction.FunctionSet.{FunctionSet}
 use Rattle.functions.specs.declared.mathfunction.FunctionSet.the-variants.{Regular, List, Unknown}
-use Rattle.listed.specs.declared.listed_rules.Listed.{Listed}
-use Rattle.listed.specs.declared.listed_rules.Listed.the-variants.{Ldexp, Outer, Refract, Mix, Transpose, ExtractBits, InsertBits}
+use Rattle.functions.specs.declared.listed_rules.Listed.{Listed}
+use Rattle.functions.specs.declared.listed_rules.Listed.the-variants.{Ldexp, Outer, Refract, Mix, Transpose, ExtractBits, InsertBits}
 
 -- the functions that have a List, in the order of their numbers
 abbrev pub listedNumber : Listed → ℕ

@@ -9,17 +9,17 @@ use Rattle.scalars.specs.Mask.{choose, either}
 use Rattle.scalars.specs.Domain.{concreteInteger?, concreteFloat?, float?, numeric?}
 use Rattle.rules.specs.Signature.{Signature}
 use Rattle.scalars.specs.Scalar.{scalarsThat}
-use Rattle.domain.specs.Constructor.{vector?, constructorsThat}
+use Rattle.types.specs.Constructor.{vector?, constructorsThat}
 use Rattle.rules.specs.Rule.{ruleOf}
 use Rattle.regular.specs.SetPaper.{noSet}
 use Rattle.regular.specs.Regular.{regularOf, regularRules}
-use Rattle.listed.specs.ListedRules.{listedRules}
+use Rattle.functions.specs.ListedRules.{listedRules}
 use Rattle.scalars.specs.Paper.{Paper, accepted, refusal}
 use Rattle.rules.specs.RulePaper.{ruleValues, noRule}
 use Rattle.functions.specs.FunctionPaper.{functionPaper}
 use Rattle.functions.specs.declared.mathfunction.FunctionSet.{FunctionSet}
 use Rattle.functions.specs.declared.mathfunction.FunctionSet.the-variants as set
-use Rattle.listed.specs.declared.listed_rules.Listed.the-variants.{Ldexp, Outer, Refract, Mix, Transpose, ExtractBits, InsertBits}
+use Rattle.functions.specs.declared.listed_rules.Listed.the-variants.{Ldexp, Outer, Refract, Mix, Transpose, ExtractBits, InsertBits}
 use Rattle.regular.specs.declared.regular.ConclusionRule.{ConclusionRule}
 use Rattle.regular.specs.declared.regular.ConclusionRule.the-variants as to
 

@@ -7,11 +7,11 @@ ghost use mathlib.Core.Path.{_≡_};
 ghost use Prim.Native.Nat.{_<_, _≤_};
 ghost use Rattle.functions.specs.FunctionPaper.{functionPaper};
 ghost use Rattle.functions.specs.Functions.{functionSetOf, setOfFunction};
-use domain::ConstructorSet;
-use listed::Listed;
+use crate::listed_rules::Listed;
 use regular::ConclusionRule;
 use regular::Regular;
 use scalars::ScalarSet;
+use types::ConstructorSet;
 
 // How many functions there are.
 pub const FUNCTION_COUNT: u8 = 79;

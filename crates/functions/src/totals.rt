@@ -3,9 +3,9 @@
 ghost use mathlib.Core.Path.{_≡_};
 ghost use Rattle.scalars.specs.Paper.{countPaper};
 ghost use Rattle.functions.specs.RuleTotal.{ruleTotal};
+use crate::listed_rules::rule_count;
 use crate::mathfunction::FunctionSet;
 use crate::mathfunction::function_set;
-use listed::rule_count;
 use scalars::CountAnswer;
 use scalars::Refusal;
 

@@ -12,3 +12,4 @@ pub mod SetSteps
 pub mod Preferred
 pub mod Agreement
 pub mod ChosenPapers
+pub mod AnyPapers

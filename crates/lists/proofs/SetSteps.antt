@@ -12,7 +12,7 @@ use borrow.Author.Tests.{ltb-true, ltb-false}
 use Rattle.scalars.specs.Mask.{choose, both, filter, every, bits}
 use Rattle.scalars.specs.Domain.{isAbstract, known?}
 use Rattle.rules.specs.Signature.{reaches}
-use Rattle.domain.specs.Constructor.{singletonOfCode}
+use Rattle.types.specs.Constructor.{singletonOfCode}
 use Rattle.rules.specs.Rule.{passes}
 use Rattle.regular.specs.Regular.{pairs, codesOf, signatureFor, regularRules, emptyRegular, narrowed, concreteSet, concludedOf, concluded?, allConclude, regularArg, regularConcrete}
 use Rattle.regular.specs.private.Tested.{Known}

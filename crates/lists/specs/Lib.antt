@@ -3,5 +3,7 @@ pub mod Entry
 pub mod List
 pub mod Expansion
 pub mod ChosenPaper
+pub mod AnyPaper
+pub mod AnyOverloadSet
 pub mod private
 pub mod claims

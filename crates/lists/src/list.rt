@@ -20,7 +20,6 @@ use crate::walks::filter;
 use crate::walks::first;
 use crate::walks::listed;
 use crate::walks::longest;
-use domain::LAST_CODE;
 use rules::AllowedArgs;
 use rules::Keep;
 use rules::Listing;
@@ -32,6 +31,7 @@ use scalars::CountAnswer;
 use scalars::Refusal;
 use scalars::Test;
 use scalars::Verdict;
+use types::LAST_CODE;
 
 // The most rules of a List.
 pub(crate) const MOST_RULES: usize = 63;

@@ -12,7 +12,7 @@ use borrow.Author.Tests.{ltb-true, lt-ltb}
 use Rattle.scalars.specs.Mask.{choose, both, every}
 use Rattle.scalars.specs.Domain.{value?}
 use Rattle.rules.specs.Rule.{ruleOf}
-use Rattle.domain.specs.TypeCode.{predeclaredCode}
+use Rattle.types.specs.TypeCode.{predeclaredCode}
 use Rattle.scalars.specs.Paper.{Paper, accepted, refusal, values, refused}
 use Rattle.rules.specs.RulePaper.{ruleValues, noRule}
 use Rattle.rules.proofs.RulePapers.{ruleNamed}

@@ -18,7 +18,7 @@ use Rattle.regular.specs.declared.regular.Codes.{Codes}
 use Rattle.regular.specs.declared.regular.Regular.{Regular}
 use Rattle.rules.specs.declared.rule.Rule.{Rule}
 use Rattle.regular.proofs.Regulars.{pairs-most}
-use Rattle.domain.proofs.Codes.{from-here}
+use Rattle.types.proofs.Codes.{from-here}
 use Rattle.scalars.proofs.Fills.{filled}
 
 pub codes-few : (r : Regular) → length (codesOf r) ≤ 156

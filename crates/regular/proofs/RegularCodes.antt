@@ -15,7 +15,7 @@ use Rattle.scalars.specs.Mask.{choose, both, consIf, odd, filter, every, select
 use Rattle.scalars.specs.Domain.{scalars, constructors, value?, abstract?, converts, constructorPart, scalarPart, isAbstract}
 use Rattle.rules.specs.Signature.{reaches}
 use Rattle.scalars.specs.Scalar.{scalarsThat, convertibleFrom}
-use Rattle.domain.specs.Constructor.{singletonOfCode}
+use Rattle.types.specs.Constructor.{singletonOfCode}
 use Rattle.regular.specs.Regular.{pairs, codesOf, narrowed, concreteSet, reachedScalars}
 use Rattle.regular.specs.declared.regular.Regular.{Regular}
 use Rattle.scalars.proofs.Table.{at}

@@ -10,7 +10,7 @@ use lib.ListN.{replicate, length-replicate}
 use borrow.Author.Tests.{lt-ltb, le-leb, ltb-true}
 use Rattle.scalars.specs.Mask.{either, every, bits, upTo}
 use Rattle.scalars.specs.Domain.{scalars, constructors, value?, known?}
-use Rattle.domain.specs.TypeCode.{predeclaredCode}
+use Rattle.types.specs.TypeCode.{predeclaredCode}
 use Rattle.rules.proofs.Records.{short?, typed?}
 use Rattle.scalars.specs.Paper.{value}
 use Rattle.regular.specs.Regular.{pairs, codesOf, signatureFor, regularRules, concludedOf, concluded?, allConclude}

@@ -13,7 +13,7 @@ use Rattle.scalars.specs.Domain.{abstract?, isAbstract}
 use Rattle.rules.specs.Signature.{reaches, takesAt, takes, concrete}
 use Rattle.rules.proofs.Records.{allConcrete}
 use Rattle.scalars.specs.Scalar.{scalarsThat}
-use Rattle.domain.specs.Constructor.{singletonOfCode}
+use Rattle.types.specs.Constructor.{singletonOfCode}
 use Rattle.regular.specs.Regular.{codesOf, signatureFor, regularRules, emptyRegular, narrowed, concreteSet, reachedScalars}
 use Rattle.regular.specs.private.Tested.{Known}
 use Rattle.regular.specs.declared.regular.Regular.{Regular}

@@ -17,7 +17,7 @@ use Rattle.scalars.specs.Paper.{accepted, refusal}
 use Rattle.rules.specs.RulePaper.{noRule}
 use Rattle.regular.specs.declared.regular.Regular.{Regular}
 use Rattle.scalars.proofs.Masks.{trailing-lt}
-use Rattle.domain.proofs.Constructors.{isOne, only-one, several}
+use Rattle.types.proofs.Constructors.{isOne, only-one, several}
 use Rattle.scalars.proofs.Bits.{bits-first, bits-none, bits-length, bits-count}
 
 -- ---- pairs of constructors and scalars

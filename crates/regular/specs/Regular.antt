@@ -12,8 +12,8 @@ use Rattle.rules.specs.RulePaper.{ruleValues, noRule}
 use Rattle.regular.specs.SetPaper.{regularValues, noSet}
 use Rattle.rules.specs.Signature.{Signature}
 use Rattle.scalars.specs.Scalar.{convertibleFrom, scalarsThat}
-use Rattle.domain.specs.Constructor.{singletonOfCode}
-use Rattle.domain.specs.TypeCode.{typeCode, predeclaredCode, firstModf, firstFrexp}
+use Rattle.types.specs.Constructor.{singletonOfCode}
+use Rattle.types.specs.TypeCode.{typeCode, predeclaredCode, firstModf, firstFrexp}
 use Rattle.rules.specs.Rule.{mostArguments, ruleOf}
 use Rattle.rules.specs.Listing.{acceptedListing, noListing, acceptedTypes, noTypes}
 use Rattle.rules.specs.Verdict.{onVerdict, emptyOf, countOf}

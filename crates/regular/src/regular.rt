@@ -8,18 +8,11 @@ ghost use mathlib.Core.List.{map};
 ghost use Prim.Native.Nat.{_+_, _*_, _<_, _≤_};
 ghost use Rattle.scalars.specs.Mask.{bits};
 ghost use Rattle.scalars.specs.Paper.{verdictPaper, testPaper, countPaper};
-ghost use Rattle.domain.specs.TypePaper.{codePaper};
+ghost use Rattle.types.specs.TypePaper.{codePaper};
 ghost use Rattle.rules.specs.RulePaper.{rulePaper, listingPaper, typesPaper};
 ghost use Rattle.regular.specs.SetPaper.{setPaper, regularPaper};
 ghost use Rattle.regular.specs.Regular.{regularVerdict, regularEmpty, regularCount, regularArg, regularConcrete, regularPreferred, regularRule, regularListing, regularAllowed, emptySet?, narrowed, concreteSet, reachedScalars, concludedOf, ruleFor, codesOf};
 ghost use Rattle.regular.specs.private.Tested.{codesFound, RowFits, put, Known, concludedListing};
-use domain::CodeAnswer;
-use domain::Constructor;
-use domain::ConstructorSet;
-use domain::LAST_CODE;
-use domain::TypeParts;
-use domain::VALUES;
-use domain::code_of;
 use rules::AllowedArgs;
 use rules::Listing;
 use rules::MOST_ARGUMENTS;
@@ -35,6 +28,13 @@ use scalars::Scalar;
 use scalars::ScalarSet;
 use scalars::Test;
 use scalars::Verdict;
+use types::CodeAnswer;
+use types::Constructor;
+use types::ConstructorSet;
+use types::LAST_CODE;
+use types::TypeParts;
+use types::VALUES;
+use types::code_of;
 
 pub struct Regular {
     // The number of arguments in the rules.

@@ -2,12 +2,12 @@
 
 use crate::records::wide;
 use crate::set_answers::allowed_agrees;
+use calls::list_of;
 use functions::FunctionSet;
 use functions::function_set;
-use overloads::list_of;
+use lists::AnyAnswer;
+use lists::AnyOverloadSet;
 use scalars::Verdict;
-use sets::AnyAnswer;
-use sets::AnyOverloadSet;
 
 // Whether the types that the function's full set allows there are the stored ones.
 pub fn agrees(record: &[u8]) -> bool {

@@ -1,8 +1,9 @@
 // The lists of stored answers, and the comparison that belongs to each.
 
+use crate::agreement;
 use crate::allowed;
 use crate::boundary;
-use crate::calls;
+use crate::call_records;
 use crate::combine;
 use crate::consensus;
 use crate::convertible;
@@ -34,9 +35,17 @@ pub fn agrees(list: StoredList, record: &[u8]) -> bool {
         StoredList::Consensus => consensus::agrees(record),
         StoredList::HandSets => handsets::agrees(record),
         StoredList::Boundary => boundary::agrees(record),
-        StoredList::Calls => calls::agrees(record),
+        StoredList::Calls => call_records::agrees(record),
         StoredList::Refused => refused::agrees(record),
         StoredList::Allowed => allowed::agrees(record),
         StoredList::Expressions => typings::agrees(record),
     }
+}
+
+// Whether the record holds a Regular set that is expanded, and its expansion compared.
+pub fn expands(list: StoredList, record: &[u8]) -> bool {
+    if let StoredList::HandSets = list {
+        return agreement::expands(record);
+    }
+    false
 }

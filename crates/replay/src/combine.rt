@@ -1,9 +1,9 @@
 // Combination of two scalars. A record is the two, and what they combine to.
 
 use crate::answers::NONE;
-use domain::Combination;
-use domain::automatic_conversion_combine;
 use scalars::Scalar;
+use types::Combination;
+use types::automatic_conversion_combine;
 
 // Whether the combination is the stored one.
 pub fn agrees(record: &[u8]) -> bool {

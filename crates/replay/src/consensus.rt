@@ -3,10 +3,10 @@
 use crate::answers::NONE;
 use crate::answers::is_refusal;
 use crate::records::wide;
-use domain::Base;
-use domain::automatic_conversion_consensus;
 use scalars::Scalar;
 use scalars::ScalarAnswer;
+use types::Base;
+use types::automatic_conversion_consensus;
 
 // Whether the scalar, or the refusal, is the stored one.
 pub fn agrees(record: &[u8]) -> bool {

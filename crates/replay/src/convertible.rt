@@ -1,10 +1,10 @@
 // Conversion of a scalar. A record is the scalar, and the two bytes of the mask of those that it converts to.
 
 use crate::records::word;
-use domain::automatically_converts_to;
 use scalars::Scalar;
 use scalars::ScalarSet;
 use scalars::Test;
+use types::automatically_converts_to;
 
 // Whether the mask is the stored one, and the single conversions say the same.
 pub fn agrees(record: &[u8]) -> bool {

@@ -3,16 +3,16 @@
 
 use crate::records::word;
 use crate::rule_records::RULE_BYTES;
-use handmade::list_from;
-use handmade::regular_from;
+use c_sets::list_from;
+use c_sets::regular_from;
 use lent_masks::lend_mask;
+use lists::AnyAnswer;
+use lists::AnyOverloadSet;
 use lists::ListAnswer;
 use regular::Regular;
 use regular::RegularAnswer;
 use scalars::Refusal;
 use scalars::Verdict;
-use sets::AnyAnswer;
-use sets::AnyOverloadSet;
 
 // The bytes of a Regular set.
 const REGULAR_BYTES: usize = 7;

@@ -10,8 +10,8 @@ use crate::set_answers::counts_agree;
 use crate::set_answers::listing_agrees;
 use crate::set_answers::preferred_agrees;
 use crate::steps::stepped;
+use lists::AnyOverloadSet;
 use scalars::Verdict;
-use sets::AnyOverloadSet;
 
 // Whether the set answers everything as stored, and so does its expansion.
 pub fn agrees(record: &[u8]) -> bool {

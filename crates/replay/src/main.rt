@@ -9,7 +9,7 @@ mod agreement;
 mod allowed;
 mod answers;
 mod boundary;
-mod calls;
+mod call_records;
 mod catalogue;
 mod combine;
 mod consensus;

@@ -1,8 +1,8 @@
 // The sets that have names. A record is the number of the name, in the order below, and the two bytes of the mask.
 
 use crate::records::word;
-use domain::ConstructorSet;
 use scalars::ScalarSet;
+use types::ConstructorSet;
 
 // Whether the set of that name has the stored mask.
 pub fn agrees(record: &[u8]) -> bool {

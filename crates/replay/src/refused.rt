@@ -2,8 +2,8 @@
 
 use crate::answers::is_refusal;
 use crate::records::wide;
+use calls::call_of;
 use lists::ChosenAnswer;
-use overloads::call_of;
 
 // Whether the call is refused 6 at that argument, with the concrete-only switch off.
 pub fn agrees(record: &[u8]) -> bool {

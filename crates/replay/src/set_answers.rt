@@ -6,10 +6,10 @@ use crate::rule_records::RULE_BYTES;
 use crate::rule_records::rule_at;
 use crate::rule_records::rules_agree;
 use crate::rule_records::same;
+use lists::AnyOverloadSet;
 use rules::RuleAnswer;
 use scalars::CountAnswer;
 use scalars::Refusal;
-use sets::AnyOverloadSet;
 
 // Whether the stored answer is an acceptance.
 pub fn accepted(stored: &[u8]) -> bool {

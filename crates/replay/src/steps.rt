@@ -3,9 +3,9 @@
 
 use crate::answers::NONE;
 use crate::records::wide;
+use lists::AnyAnswer;
+use lists::AnyOverloadSet;
 use scalars::Verdict;
-use sets::AnyAnswer;
-use sets::AnyOverloadSet;
 
 // The set after all steps, or the first refusal.
 pub fn stepped(start: AnyAnswer, steps: &[u8]) -> AnyAnswer {

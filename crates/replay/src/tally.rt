@@ -1,4 +1,4 @@
-// How many answers of a list were compared, and how many differ.
+// How many answers of a list were compared, how many differ, and how many sets of the list were expanded.
 
 use std::num::wrapping_add_u64;
 
@@ -7,6 +7,7 @@ pub struct Tally {
     differ: u64,
     // The number of the first record that differs, counted from 0, where one does.
     first: u64,
+    expanded: u64,
 }
 
 impl Tally {
@@ -16,6 +17,7 @@ impl Tally {
             compared: 0,
             differ: 0,
             first: 0,
+            expanded: 0,
         }
     }
 
@@ -26,6 +28,17 @@ impl Tally {
             compared: wrapping_add_u64(after.compared, 1),
             differ: after.differ,
             first: after.first,
+            expanded: after.expanded,
+        }
+    }
+
+    // One expanded set more.
+    pub fn with_expansion(self) -> Tally {
+        Tally {
+            compared: self.compared,
+            differ: self.differ,
+            first: self.first,
+            expanded: wrapping_add_u64(self.expanded, 1),
         }
     }
 
@@ -40,6 +53,7 @@ impl Tally {
             compared: self.compared,
             differ: wrapping_add_u64(self.differ, 1),
             first: first,
+            expanded: self.expanded,
         }
     }
 
@@ -54,6 +68,11 @@ impl Tally {
         if self.differ != 0 {
             io::write_all(1, b", the first at record ");
             io::print_decimal(1, self.first);
+        }
+        if self.expanded != 0 {
+            io::write_all(1, b", ");
+            io::print_decimal(1, self.expanded);
+            io::write_all(1, b" expanded");
         }
         io::write_all(1, b"\n");
     }

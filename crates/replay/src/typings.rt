@@ -58,11 +58,11 @@ fn typed(bytes: &[u8], switch: bool, space: &mut [u8], size: usize) -> TypeAnswe
     type_expression(bytes, switch, &mut space[..size])
 }
 
-// Whether the answer has this number, place and type. An accepted worksheet must run; a refusal has none.
-fn answer_agrees(answer: TypeAnswer, number: u8, place: usize, code: u8, sheet: &[u8]) -> bool {
+// Whether the answer has this number, place and type, and the sheet's length. An accepted worksheet must run; a refusal has none.
+fn answer_agrees(answer: TypeAnswer, number: u8, place: usize, t: u8, sheet: &[u8]) -> bool {
     match answer {
         TypeAnswer::Refused(why) => {
-            if code != NONE {
+            if t != NONE {
                 return false;
             }
             if sheet.len() != 0 {
@@ -70,17 +70,20 @@ fn answer_agrees(answer: TypeAnswer, number: u8, place: usize, code: u8, sheet: 
             }
             is_refusal(why, number, place)
         }
-        TypeAnswer::Typed(t) => {
+        TypeAnswer::Typed { code, len } => {
             if number != 0 {
                 return false;
             }
             if place != 0 {
                 return false;
             }
-            if t != code {
+            if code != t {
                 return false;
             }
-            runs(sheet, code)
+            if len != sheet.len() {
+                return false;
+            }
+            runs(sheet, t)
         }
     }
 }

@@ -2,6 +2,7 @@
 
 use crate::catalogue::StoredList;
 use crate::catalogue::agrees;
+use crate::catalogue::expands;
 use crate::records::load;
 use crate::records::room;
 use crate::records::span_at;
@@ -29,8 +30,17 @@ fn compared(list: StoredList, file: &[u8]) -> Tally {
         if from <= at {
             return tally.broken();
         }
-        tally = tally.with(agrees(list, &file[from..to]));
+        tally = counted(tally, list, &file[from..to]);
         at = to;
     }
     tally
+}
+
+// The tally with one record more.
+fn counted(tally: Tally, list: StoredList, record: &[u8]) -> Tally {
+    let after = tally.with(agrees(list, record));
+    if expands(list, record) {
+        return after.with_expansion();
+    }
+    after
 }

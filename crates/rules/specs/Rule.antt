@@ -8,8 +8,8 @@ use lib.ListN.{length, take, getD}
 use Rattle.scalars.specs.Mask.{choose, both, every}
 use Rattle.scalars.specs.Domain.{value?, known?}
 use Rattle.rules.specs.Signature.{Signature, typeAt, takes, concrete}
-use Rattle.domain.specs.Constructor.{constructorOf}
-use Rattle.domain.specs.TypeCode.{predeclaredCode, firstModf, firstFrexp}
+use Rattle.types.specs.Constructor.{constructorOf}
+use Rattle.types.specs.TypeCode.{predeclaredCode, firstModf, firstFrexp}
 use Rattle.scalars.specs.Paper.{Paper, accepted, refusal, whenAccepted}
 use Rattle.rules.specs.RulePaper.{ruleValues, noRule}
 use Rattle.rules.specs.declared.rule.Rule.{Rule}
@@ -17,7 +17,7 @@ use Rattle.rules.specs.declared.rule.Keep.{Keep}
 use Rattle.rules.specs.declared.rule.Keep.the-variants.{Argument, Concrete}
 use Rattle.rules.specs.declared.rule.Predeclared.{Predeclared}
 use Rattle.rules.specs.declared.rule.Predeclared.the-variants.{Frexp, Modf}
-use Rattle.domain.specs.declared.constructor_set.ConstructorSize.{ConstructorSize}
+use Rattle.types.specs.declared.constructor_set.ConstructorSize.{ConstructorSize}
 
 -- the most arguments of a rule
 abbrev pub mostArguments : ℕ

@@ -1,4 +1,4 @@
-// Type rules: naga's `src/proc/overloads/rule.rs`, above the crate `domain`. Beside it stands `listing`, what a set of either kind
+// Type rules: naga's `src/proc/overloads/rule.rs`, above the crate `types`. Beside it stands `listing`, what a set of either kind
 // lists. Every public function ends on every input and tests it itself, but for the bare tests of a rule that docs/DECISIONS.md lists.
 
 mod listing;

@@ -18,15 +18,15 @@ use Rattle.rules.specs.Verdict.{longest}
 use Rattle.functions.specs.Functions.{functionCount, listingOf}
 use Rattle.lists.specs.Entry.{Entry, number, keep}
 use Rattle.lists.specs.ChosenPaper.{noChoice}
-use Rattle.overloads.specs.Choice.{Choice, chosen, wrongCount, noneAfter, noneConcrete, Narrowed, left, emptied, narrow, first, concreteStep, afterOperands, resolve}
-use Rattle.overloads.specs.Call.{answered, callOf, survivorsOf, survivorsOfCall}
+use Rattle.calls.specs.Choice.{Choice, chosen, wrongCount, noneAfter, noneConcrete, Narrowed, left, emptied, narrow, first, concreteStep, afterOperands, resolve}
+use Rattle.calls.specs.Call.{answered, callOf, survivorsOf, survivorsOfCall}
 use Rattle.scalars.proofs.Filters.{both-left, both-right, both-true}
 use Rattle.functions.proofs.Database.{some-rules}
-use Rattle.overloads.proofs.Firsts.{keep-keep, keep-every}
-use Rattle.overloads.proofs.Narrowing.{takesFrom, passesAll, permits, Some, Narrows, narrow-narrows}
-use Rattle.overloads.proofs.Choices.{concrete-keeps}
-use Rattle.overloads.proofs.Resolving.{count-wrong, count-right}
-use Rattle.overloads.proofs.Demand2.{of-functions}
+use Rattle.calls.proofs.Firsts.{keep-keep, keep-every}
+use Rattle.calls.proofs.Narrowing.{takesFrom, passesAll, permits, Some, Narrows, narrow-narrows}
+use Rattle.calls.proofs.Choices.{concrete-keeps}
+use Rattle.calls.proofs.Resolving.{count-wrong, count-right}
+use Rattle.calls.proofs.Demand2.{of-functions}
 use Rattle.theorems.specs.Known.{AllKnown, FirstUnknown}
 use Rattle.theorems.specs.Operations.{Set, regular, list}
 use Rattle.theorems.specs.Calls.{Fits, EmptiedAt, AnswersRule, BySet, Call, Survivors, Theorem}

@@ -12,10 +12,10 @@ use lib.ListN.{length, getD, take}
 use Rattle.scalars.specs.Mask.{choose}
 use Rattle.scalars.specs.Domain.{converts, value?, scalarPart, firstUnknown}
 use Rattle.scalars.specs.Paper.{Paper, accepted, refusal}
-use Rattle.domain.specs.declared.conversion.Base.{Base}
-use Rattle.domain.specs.declared.conversion.Base.the-variants as base
-use Rattle.domain.specs.Conversion.{none, combination, agree, agreeWithFirst, ifKnownAll, consensusOf}
-use Rattle.domain.proofs.Combinations.{combination-known}
+use Rattle.types.specs.declared.conversion.Base.{Base}
+use Rattle.types.specs.declared.conversion.Base.the-variants as base
+use Rattle.types.specs.Conversion.{none, combination, agree, agreeWithFirst, ifKnownAll, consensusOf}
+use Rattle.types.proofs.Combinations.{combination-known}
 use Rattle.theorems.specs.Known.{AllKnown, FirstUnknown}
 use Rattle.theorems.specs.Consensus.{Offered, byBase, byComponent, Consensus, Nothing, Breaks, KnownBase, Answers, Theorem}
 use Rattle.theorems.proofs.Papers.{refused-not, other-number}

@@ -22,7 +22,7 @@ use Rattle.machine.specs.Run.{ranOf}
 use Rattle.worksheet.specs.declared.typer.TypeAnswer.{TypeAnswer}
 use Rattle.worksheet.specs.Typer.{Typed, typed, refused, typeOf}
 use Rattle.worksheet.specs.Answer.{withRoom, bufferAfter}
-use Rattle.worksheet.specs.Typing.{afterReading, typingOf, typing, answerOf, typePaper}
+use Rattle.worksheet.specs.Typing.{afterReading, typingOf, typing, noType, answerOf, typePaper}
 use Rattle.worksheet.specs.claims.Meaning.{Gives, Stuck}
 use Rattle.worksheet.specs.claims.Demand3 as trees
 use Rattle.expressions.proofs.Answers.{accepted-refused}
@@ -120,33 +120,38 @@ module _ (switch : Bool) (s d : List ℕ) where
     left : {x : Typed ℕ} → typing switch s d ≡ x → d′ ≡ bufferAfter x d
     left q = buffer ∙ ap (λ y. bufferAfter y d) q
 
-    typed-lines : (t : ℕ) → typePaper r ≡ paper.accepted (t ∷ []) → (x : Typed ℕ) → typing switch s d ≡ x
-        → (ls : List Line) × (typing switch s d ≡ typed t ls)
-    typed-lines t h (typed t′ ls) q =
-        let e : paper.accepted (t′ ∷ []) ≡ paper.accepted (t ∷ []) = sym (answered q) ∙ h in
+    typed-lines : (t n : ℕ) → typePaper r ≡ paper.accepted (t ∷ n ∷ []) → (x : Typed ℕ) → typing switch s d ≡ x
+        → (ls : List Line) × (typing switch s d ≡ typed t ls) × (length (encode ls) ≡ n)
+    typed-lines t n h (typed t′ ls) q =
+        let e : paper.accepted (t′ ∷ length (encode ls) ∷ []) ≡ paper.accepted (t ∷ n ∷ []) = sym (answered q) ∙ h in
         let m : t′ ≡ t = cc in
-        (ls, rw m at q)
-    typed-lines t h (refused n p) q = accepted-refused (sym h ∙ answered q)
+        let k : length (encode ls) ≡ n = cc in
+        (ls, rw m at q, k)
+    typed-lines t n h (refused k p) q = accepted-refused (sym h ∙ answered q)
 
-    refused-by : (n p : ℕ) → typePaper r ≡ paper.refusal n p (255 ∷ []) → (x : Typed ℕ) → typing switch s d ≡ x
+    refused-by : (n p : ℕ) → typePaper r ≡ paper.refusal n p noType → (x : Typed ℕ) → typing switch s d ≡ x
         → typing switch s d ≡ refused n p
     refused-by n p h (refused n′ p′) q =
-        let e : paper.refusal n′ p′ (255 ∷ []) ≡ paper.refusal n p (255 ∷ []) = sym (answered q) ∙ h in
+        let e : paper.refusal n′ p′ noType ≡ paper.refusal n p noType = sym (answered q) ∙ h in
         let m : n′ ≡ n = cc in
         let k : p′ ≡ p = cc in
         rw (m, k) at q
     refused-by n p h (typed t ls) q = accepted-refused (sym (answered q) ∙ h)
 
-    refusal : Faulty → (x : Typed ℕ) → typing switch s d ≡ x → (n : ℕ) × (p : ℕ) × (typePaper r ≡ paper.refusal n p (255 ∷ []))
+    refusal : Faulty → (x : Typed ℕ) → typing switch s d ≡ x → (n : ℕ) × (p : ℕ) × (typePaper r ≡ paper.refusal n p noType)
     refusal f (typed t ls) q = absurd (never-typed f t ls q)
     refusal f (refused n p) q = (n, p, answered q)
 
-    accepted-fits : (t : ℕ) → typePaper r ≡ paper.accepted (t ∷ [])
-        → (e : Tree) × (ls : List Line) × Giving switch s d e t ls × Room switch s d ls
-    accepted-fits t h =
-        let (ls, q) = typed-lines t h (typing switch s d) refl in
+    accepted-fits : (t n : ℕ) → typePaper r ≡ paper.accepted (t ∷ n ∷ [])
+        → (e : Tree) × (ls : List Line) × Giving switch s d e t ls × Room switch s d ls × (length (encode ls) ≡ n)
+    accepted-fits t n h =
+        let (ls, q, long) = typed-lines t n h (typing switch s d) refl in
         let (e, k, held) = typing-typed t ls q in
-        (e, ls, k, held)
+        (e, ls, k, held, long)
+
+    fits-accepted : (t n : ℕ) (e : Tree) (ls : List Line) → Giving switch s d e t ls → Room switch s d ls → length (encode ls) ≡ n
+        → typePaper r ≡ paper.accepted (t ∷ n ∷ [])
+    fits-accepted t n e ls k h long = answered (typing-fits e t ls k h) ∙ ap (λ (m : ℕ). paper.accepted (t ∷ m ∷ [])) long
 
     sheet : (e : Tree) (t : ℕ) (ls : List Line) → Giving switch s d e t ls → Room switch s d ls → Worksheet switch s d d′ e t ls
     sheet e t ls k h =
@@ -163,7 +168,7 @@ module _ (switch : Bool) (s d : List ℕ) where
     holds : Demand3 switch s d r d′
     holds =
         record {
-          accepted = λ t. (accepted-fits t, λ (e, ls, k, h). answered (typing-fits e t ls k h));
+          accepted = λ t n. (accepted-fits t n, λ (e, ls, k, h, long). fits-accepted t n e ls k h long);
           worksheet = sheet;
           refused = λ roomy. (
             λ (n, p, h). faulty roomy n p (refused-by n p h (typing switch s d) refl),

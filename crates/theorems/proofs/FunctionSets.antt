@@ -26,10 +26,10 @@ use Rattle.rules.specs.declared.rule.Keep.the-variants.{Argument}
 use Rattle.regular.specs.Regular.{pairs, codesOf, signatureFor, regularRules, allConclude, preferredAmong, regularPreferred, regularCount, regularEmpty}
 use Rattle.regular.specs.private.Tested.{Known}
 use Rattle.regular.specs.declared.regular.Regular.{Regular}
-use Rattle.listed.specs.Sequences.{floatScalars, concreteFloatScalars, concreteIntScalars, vectorSizes, vector, matrix, scalarOrVecn}
-use Rattle.listed.specs.ListedRules.{listedRules}
-use Rattle.listed.specs.declared.listed_rules.Listed.{Listed}
-use Rattle.listed.specs.declared.listed_rules.Listed.the-variants.{Ldexp, Outer, Refract, Mix, Transpose, ExtractBits, InsertBits}
+use Rattle.functions.specs.Sequences.{floatScalars, concreteFloatScalars, concreteIntScalars, vectorSizes, vector, matrix, scalarOrVecn}
+use Rattle.functions.specs.ListedRules.{listedRules}
+use Rattle.functions.specs.declared.listed_rules.Listed.{Listed}
+use Rattle.functions.specs.declared.listed_rules.Listed.the-variants.{Ldexp, Outer, Refract, Mix, Transpose, ExtractBits, InsertBits}
 use Rattle.functions.specs.Functions.{functionCount, functionSetOf, rulesIn, listingOf}
 use Rattle.functions.specs.declared.mathfunction.FunctionSet.{FunctionSet}
 use Rattle.functions.specs.declared.mathfunction.FunctionSet.the-variants as function
@@ -40,12 +40,12 @@ use Rattle.lists.specs.Expansion.{listOf}
 use Rattle.lists.specs.declared.list.ChosenAnswer.{ChosenAnswer}
 use Rattle.lists.specs.declared.list.ChosenAnswer.the-variants as chosen
 use Rattle.lists.specs.declared.list.List as declared
-use Rattle.overloads.specs.Choice.{first}
-use Rattle.overloads.specs.Call.{answered}
-use Rattle.overloads.specs.private.CallSets.{Callable}
+use Rattle.calls.specs.Choice.{first}
+use Rattle.calls.specs.Call.{answered}
+use Rattle.calls.specs.private.CallSets.{Callable}
 use Rattle.scalars.proofs.Filters.{both-true}
 use Rattle.regular.proofs.Regulars.{known-accepted}
-use Rattle.listed.proofs.Places.{few-listed}
+use Rattle.functions.proofs.Places.{few-listed}
 use Rattle.functions.specs.FunctionPaper.{functionPaper}
 use Rattle.functions.proofs.Database.{some-rules, set-of}
 use Rattle.functions.proofs.FunctionPapers.{set-told}
@@ -56,12 +56,12 @@ use Rattle.lists.proofs.SetSteps.{stepRegular, knownStep, step-known, step-conc
 use Rattle.lists.proofs.Preferred.{OneShape, argument-one, step-one, regular-first}
 use Rattle.lists.proofs.Expansions.{Tested, accepted-of, kept-tested}
 use Rattle.lists.proofs.Agreement.{rules-after}
-use Rattle.overloads.proofs.Firsts.{keep-keep, keep-every}
-use Rattle.overloads.proofs.Narrowing.{takesFrom, permits, passesAll}
-use Rattle.overloads.proofs.ListResolving.{full-entries}
-use Rattle.overloads.proofs.ListCalls.{some-count, full-count}
-use Rattle.overloads.proofs.RegularCalls.{rules-longest}
-use Rattle.overloads.proofs.FunctionCalls.{callable, regular-listing, full, short-listed, listed-valid, listed-signatures, never-unknown}
+use Rattle.calls.proofs.Firsts.{keep-keep, keep-every}
+use Rattle.calls.proofs.Narrowing.{takesFrom, permits, passesAll}
+use Rattle.calls.proofs.ListResolving.{full-entries}
+use Rattle.calls.proofs.ListCalls.{some-count, full-count}
+use Rattle.calls.proofs.RegularCalls.{rules-longest}
+use Rattle.calls.proofs.FunctionCalls.{callable, regular-listing, full, short-listed, listed-valid, listed-signatures, never-unknown}
 use Rattle.functions.proofs.function_set as function_set
 use Rattle.theorems.specs.Known.{AllKnown}
 use Rattle.theorems.specs.Operations.{Set, regular, list, Empty, Least, Most, Preferred, After}

@@ -2,16 +2,16 @@
 -- papers are one to one. Assumes nothing.
 use mathlib.Core.Path.{refl, sym, ap, _∙_}
 use Rattle.scalars.proofs.Papers.{walk-one, members-one, scalar-one, test-one, verdict-one, count-one}
-use Rattle.domain.specs.TypePaper.{partsPaper}
-use Rattle.domain.proofs.TypeCodes.{parts-of-one}
-use Rattle.domain.proofs.TypePapers.{size-one, constructor-one, code-one, combination-one, leaf-one, parts-one}
+use Rattle.types.specs.TypePaper.{partsPaper}
+use Rattle.types.proofs.TypeCodes.{parts-of-one}
+use Rattle.types.proofs.TypePapers.{size-one, constructor-one, code-one, combination-one, leaf-one, parts-one}
 use Rattle.expressions.proofs.Papers.{read-one}
 use Rattle.rules.proofs.RulePapers.{listing-one, types-one, rule-one}
 use Rattle.regular.proofs.SetPapers.{regular-one, set-one}
 use Rattle.functions.proofs.FunctionPapers.{function-one}
+use Rattle.lists.proofs.AnyPapers.{any-one}
 use Rattle.lists.proofs.ChosenPapers.{list-one, chosen-one}
-use Rattle.overloads.proofs.SurvivorsPapers.{survivors-one}
-use Rattle.sets.proofs.AnyPapers.{any-one}
+use Rattle.calls.proofs.SurvivorsPapers.{survivors-one}
 use Rattle.lent_masks.proofs.MaskPapers.{mask-one}
 use Rattle.machine.proofs.RunPapers.{run-one}
 use Rattle.worksheet.proofs.Papers.{type-one}
@@ -35,7 +35,7 @@ each-function = record {
   «ScalarSet::members» = λ κs a x y v w p q. (members-one x y (p ∙ sym q), refl);
   «ScalarSet::named» = λ κs a x y v w p q. (p ∙ sym q, refl);
   «ScalarSet::singles» = λ κs a x y v w p q. (p ∙ sym q, refl);
-  -- domain
+  -- types
   «ConstructorSet::singleton» = λ κs a x y v w p q. (ap (λ k. record { 0 = k }) (p ∙ sym q), refl);
   «ConstructorSet::meet» = λ κs a x y v w p q. (ap (λ k. record { 0 = k }) (p ∙ sym q), refl);
   «ConstructorSet::is_singleton» = λ κs a x y v w p q. (p ∙ sym q, refl);
@@ -82,14 +82,23 @@ each-function = record {
   «Regular::rule_of» = λ κs a x y v w p q. (rule-one x y (p ∙ sym q), refl);
   «Regular::overload_list» = λ κs a x y v w p q. (listing-one x y (p ∙ sym q), refl);
   «Regular::allowed_args» = λ κs a x y v w p q. (types-one x y (p ∙ sym q), refl);
-  -- listed
-  «rule_count» = λ κs a x y v w p q. (p ∙ sym q, refl);
-  «listed_rule» = λ κs a x y v w p q. (p ∙ sym q, refl);
   -- functions
   «rule_at» = λ κs a x y v w p q. (rule-one x y (p ∙ sym q), refl);
+  «rule_count» = λ κs a x y v w p q. (p ∙ sym q, refl);
+  «listed_rule» = λ κs a x y v w p q. (p ∙ sym q, refl);
   «function_set» = λ κs a x y v w p q. (function-one x y (p ∙ sym q), refl);
   «rule_total» = λ κs a x y v w p q. (count-one x y (p ∙ sym q), refl);
   -- lists
+  «AnyOverloadSet::from_regular» = λ κs a x y v w p q. (any-one x y (p ∙ sym q), refl);
+  «AnyOverloadSet::from_list» = λ κs a x y v w p q. (any-one x y (p ∙ sym q), refl);
+  «AnyOverloadSet::is_empty» = λ κs a x y v w p q. (test-one x y (p ∙ sym q), refl);
+  «AnyOverloadSet::min_arguments» = λ κs a x y v w p q. (count-one x y (p ∙ sym q), refl);
+  «AnyOverloadSet::max_arguments» = λ κs a x y v w p q. (count-one x y (p ∙ sym q), refl);
+  «AnyOverloadSet::arg» = λ κs a x y v w p q. (any-one x y (p ∙ sym q), refl);
+  «AnyOverloadSet::concrete_only» = λ κs a x y v w p q. (any-one x y (p ∙ sym q), refl);
+  «AnyOverloadSet::most_preferred» = λ κs a x y v w p q. (rule-one x y (p ∙ sym q), refl);
+  «AnyOverloadSet::overload_list» = λ κs a x y v w p q. (listing-one x y (p ∙ sym q), refl);
+  «AnyOverloadSet::allowed_args» = λ κs a x y v w p q. (types-one x y (p ∙ sym q), refl);
   «expand» = λ κs a x y v w p q. (list-one x y (p ∙ sym q), refl);
   «List::from_rules» = λ κs a x y v w p q. (list-one x y (p ∙ sym q), refl);
   «List::checked» = λ κs a x y v w p q. (list-one x y (p ∙ sym q), refl);
@@ -103,25 +112,14 @@ each-function = record {
   «List::allowed_args» = λ κs a x y v w p q. (types-one x y (p ∙ sym q), refl);
   «filter» = λ κs a x y v w p q. (ap (λ k. record { 0 = k }) (p ∙ sym q), refl);
   «longest» = λ κs a x y v w p q. (count-one x y (p ∙ sym q), refl);
-  -- overloads
+  -- calls
   «call_of» = λ κs a x y v w p q. (chosen-one x y (p ∙ sym q), refl);
   «survivors_of» = λ κs a x y v w p q. (survivors-one x y (p ∙ sym q), refl);
   «list_of» = λ κs a x y v w p q. (p ∙ sym q, refl);
-  -- sets
-  «AnyOverloadSet::from_regular» = λ κs a x y v w p q. (any-one x y (p ∙ sym q), refl);
-  «AnyOverloadSet::from_list» = λ κs a x y v w p q. (any-one x y (p ∙ sym q), refl);
-  «AnyOverloadSet::is_empty» = λ κs a x y v w p q. (test-one x y (p ∙ sym q), refl);
-  «AnyOverloadSet::min_arguments» = λ κs a x y v w p q. (count-one x y (p ∙ sym q), refl);
-  «AnyOverloadSet::max_arguments» = λ κs a x y v w p q. (count-one x y (p ∙ sym q), refl);
-  «AnyOverloadSet::arg» = λ κs a x y v w p q. (any-one x y (p ∙ sym q), refl);
-  «AnyOverloadSet::concrete_only» = λ κs a x y v w p q. (any-one x y (p ∙ sym q), refl);
-  «AnyOverloadSet::most_preferred» = λ κs a x y v w p q. (rule-one x y (p ∙ sym q), refl);
-  «AnyOverloadSet::overload_list» = λ κs a x y v w p q. (listing-one x y (p ∙ sym q), refl);
-  «AnyOverloadSet::allowed_args» = λ κs a x y v w p q. (types-one x y (p ∙ sym q), refl);
   -- lent_masks
   «mask_in» = λ κs a x y v w p q. (mask-one x y (p ∙ sym q), refl);
   «lend_mask» = λ κs a x y v w p q. (verdict-one x y (p .0 ∙ sym (q .0)), ap (λ l. (tt, (tt, (l, tt)))) (p .1 ∙ sym (q .1)));
-  -- handmade
+  -- c_sets
   «list_from» = λ κs a x y v w p q. (list-one x y (p ∙ sym q), refl);
   «list_arg» = λ κs a x y v w p q. (list-one x y (p ∙ sym q), refl);
   «list_concrete_only» = λ κs a x y v w p q. (list-one x y (p ∙ sym q), refl);
@@ -141,11 +139,7 @@ each-function = record {
   «regular_for_c» = λ κs a x y v w p q. (p ∙ sym q, refl);
   «consensus_for_c» = λ κs a x y v w p q. (p ∙ sym q, refl);
   «mask_for_c» = λ κs a x y v w p q. (p ∙ sym q, refl);
-  -- bindings
-  «azwukran_call» = λ κs a x y v w p q. (p ∙ sym q, refl);
-  «azwukran_survivors» = λ κs a x y v w p q. (p .0 ∙ sym (q .0), ap (λ l. (tt, (tt, (tt, (l, tt))))) (p .1 ∙ sym (q .1)));
-  «azwukran_rule» = λ κs a x y v w p q. (p ∙ sym q, refl);
-  «azwukran_consensus» = λ κs a x y v w p q. (p ∙ sym q, refl);
+  -- azwukran
   «azwukran_list_arg» = λ κs a x y v w p q. (p .0 ∙ sym (q .0), ap (λ l. (tt, (tt, (tt, (tt, (l, tt)))))) (p .1 ∙ sym (q .1)));
   «azwukran_list_concrete_only» = λ κs a x y v w p q. (p .0 ∙ sym (q .0), ap (λ l. (tt, (tt, (l, tt)))) (p .1 ∙ sym (q .1)));
   «azwukran_list_preferred» = λ κs a x y v w p q. (p ∙ sym q, refl);
@@ -153,6 +147,10 @@ each-function = record {
   «azwukran_regular_concrete_only» = λ κs a x y v w p q. (p ∙ sym q, refl);
   «azwukran_regular_preferred» = λ κs a x y v w p q. (p ∙ sym q, refl);
   «azwukran_regular_rule» = λ κs a x y v w p q. (p ∙ sym q, refl);
+  «azwukran_call» = λ κs a x y v w p q. (p ∙ sym q, refl);
+  «azwukran_survivors» = λ κs a x y v w p q. (p .0 ∙ sym (q .0), ap (λ l. (tt, (tt, (tt, (l, tt))))) (p .1 ∙ sym (q .1)));
+  «azwukran_rule» = λ κs a x y v w p q. (p ∙ sym q, refl);
+  «azwukran_consensus» = λ κs a x y v w p q. (p ∙ sym q, refl);
   «azwukran_type» = λ κs a x y v w p q. (p .0 ∙ sym (q .0), ap (λ l. (tt, (tt, (l, tt)))) (p .1 ∙ sym (q .1)));
   «azwukran_run» = λ κs a x y v w p q. (p ∙ sym q, refl);
 }

@@ -24,19 +24,19 @@ use Rattle.scalars.specs.Paper.{Paper, accepted, refusal}
 use Rattle.rules.specs.declared.rule.Keep.{Keep}
 use Rattle.rules.specs.declared.rule.Keep.the-variants.{Argument, Concrete}
 use Rattle.regular.specs.declared.regular.Regular.{Regular}
-use Rattle.listed.specs.declared.listed_rules.Listed.{Listed}
+use Rattle.functions.specs.declared.listed_rules.Listed.{Listed}
 use Rattle.functions.specs.Functions.{functionCount, listingOf}
 use Rattle.functions.specs.declared.mathfunction.FunctionSet.the-variants as function
 use Rattle.lists.specs.Entry.{number}
 use Rattle.lists.specs.ChosenPaper.{chosenPaper, noChoice}
 use Rattle.lists.specs.declared.list.List as declared
 use Rattle.lists.specs.declared.list.ChosenAnswer.{ChosenAnswer}
-use Rattle.overloads.specs.Choice.{Choice, first}
-use Rattle.overloads.specs.claims.Taking.{Survive, Says}
-use Rattle.overloads.specs.Call.{answered}
-use Rattle.overloads.specs.SurvivorsPaper.{survivorsPaper}
+use Rattle.calls.specs.Choice.{Choice, first}
+use Rattle.calls.specs.claims.Taking.{Survive, Says}
+use Rattle.calls.specs.Call.{answered}
+use Rattle.calls.specs.SurvivorsPaper.{survivorsPaper}
 use Rattle.functions.proofs as functions
-use Rattle.overloads.proofs as overloads
+use Rattle.calls.proofs as single
 use Rattle.theorems.specs.Contracts.{Promises}
 use Rattle.theorems.specs.Known.{AllKnown, FirstUnknown}
 use Rattle.theorems.specs.Operations.{Set, regular, list, Empty, Least, Most, Preferred, After}
@@ -45,7 +45,7 @@ use Rattle.theorems.specs.Operations.{Set, regular, list, Empty, Least, 
 pub data Has (f : ℕ) : Set → Type 0 where
   itsRegular : (r : Regular) → functions.function_set.Reads.Post tt (f, tt) (function.Regular r) (f, tt) → Has f (regular r)
   itsList : (d : Listed) {l : declared.List} → functions.function_set.Reads.Post tt (f, tt) (function.List d) (f, tt)
-      → overloads.list_of.Reads.Post tt (d, tt) l (d, tt) → Has f (list l)
+      → single.list_of.Reads.Post tt (d, tt) l (d, tt) → Has f (list l)
 
 -- the steps of a call: each operand at its index, then the concrete-only step if the switch is on
 abbrev pub lastStep : Bool → List Keep
@@ -101,8 +101,8 @@ pub record Survivors (switch : Bool) (f : ℕ) (ts : List ℕ) (p q : Paper) : T
   pub preferred : (m : ℕ) → q ≡ accepted (m ∷ []) → p ≡ answered (first (select (number 0 (listingOf f)) m))
 
 pub record Theorem : Type 0 where
-  pub calls : Promises overloads.call_of.ended overloads.call_of.Reads.Post
+  pub calls : Promises single.call_of.ended single.call_of.Reads.Post
       (λ κs a r s. Call (a .1 .1 .0) (a .0) (a .1 .0 .now) (chosenPaper r))
-  pub survivors : Promises overloads.survivors_of.ended overloads.survivors_of.Reads.Post
-      (λ κs a q s. (r : ChosenAnswer) → overloads.call_of.Reads.Post κs a r s
+  pub survivors : Promises single.survivors_of.ended single.survivors_of.Reads.Post
+      (λ κs a q s. (r : ChosenAnswer) → single.call_of.Reads.Post κs a r s
       → Survivors (a .1 .1 .0) (a .0) (a .1 .0 .now) (chosenPaper r) (survivorsPaper q))

@@ -17,9 +17,9 @@ use lib.ListN.{length, getD, take}
 use Rattle.scalars.specs.Domain.{converts, scalarPart}
 use Rattle.scalars.specs.Paper as paper
 use Rattle.scalars.specs.Paper.{Paper, refusal, scalarPaper}
-use Rattle.domain.specs.declared.conversion.Base.{Base}
-use Rattle.domain.specs.declared.conversion.Base.the-variants as base
-use Rattle.domain.proofs as domain
+use Rattle.types.specs.declared.conversion.Base.{Base}
+use Rattle.types.specs.declared.conversion.Base.the-variants as base
+use Rattle.types.proofs as types
 use Rattle.theorems.specs.Contracts.{Promises}
 use Rattle.theorems.specs.Known.{AllKnown, FirstUnknown}
 
@@ -59,5 +59,5 @@ pub record Answers (b : Base) (ts : List ℕ) (p : Paper) : Type 0 where
 
 abbrev pub Theorem : Type 0
 Theorem =
-    Promises domain.automatic_conversion_consensus.ended domain.automatic_conversion_consensus.Reads.Post
+    Promises types.automatic_conversion_consensus.ended types.automatic_conversion_consensus.Reads.Post
     (λ κs a r s. Answers (a .0) (a .1 .0 .now) (scalarPaper r))

@@ -2,13 +2,13 @@
 -- any bytes s, either position of the concrete-only switch and any lent buffer d, and any answer r and final buffer d′ that the
 -- promise of `type_expression` permits for them.
 --
--- The answer is accepted with type t exactly when s is the bytes of an expression within the limits that gives t, each call in it by the
--- first rule that takes its operands, by lines that d has room for. Then d′ begins with the bytes of these lines, and behind them it is
--- as d was; the lines' leaves and calls are the expression's own, in order; and any answer that the promise of `run_worksheet` permits
--- for these very bytes of d′ is the end, with one operand, of type t. Where d has room for what s gives, the answer is refused exactly
--- when s is the bytes of no expression within the limits, or of one in which some call has no rule for the number and types of its
--- operands. Where d has too little room for what s gives, the answer is refusal 10, at the bytes needed; 508 bytes always suffice. On
--- every refusal d′ is d.
+-- The answer is accepted with type t and length n exactly when s is the bytes of an expression within the limits that gives t, each call
+-- in it by the first rule that takes its operands, by lines of n bytes that d has room for. Then d′ begins with the bytes of these lines,
+-- and behind them it is as d was; the lines' leaves and calls are the expression's own, in order; and any answer that the promise of
+-- `run_worksheet` permits for these very bytes of d′ is the end, with one operand, of type t. Where d has room for what s gives, the
+-- answer is refused exactly when s is the bytes of no expression within the limits, or of one in which some call has no rule for the
+-- number and types of its operands. Where d has too little room for what s gives, the answer is refusal 10, at the bytes needed; 508
+-- bytes always suffice. On every refusal d′ is d.
 use mathlib.Core.Path.{_≡_}
 use mathlib.Core.Logic.{_↔_, _⊎_}
 use mathlib.Core.Bool.{Bool}
@@ -24,7 +24,7 @@ use Rattle.machine.specs.Run.{runPaper}
 use Rattle.machine.proofs as machine
 use Rattle.worksheet.specs.declared.typer.TypeAnswer.{TypeAnswer}
 use Rattle.worksheet.specs.claims.Room.{enoughBytes}
-use Rattle.worksheet.specs.Typing.{typePaper}
+use Rattle.worksheet.specs.Typing.{noType, typePaper}
 use Rattle.worksheet.specs.claims.Meaning.{order, ownOf, Gives, Stuck}
 use Rattle.worksheet.proofs as worksheet
 use Rattle.theorems.specs.Contracts.{Promises}
@@ -52,15 +52,16 @@ module _ (switch : Bool) (s d : List ℕ) where
         (λ κs a q _. a .0 .now ≡ take (length (encode ls)) d′ → runPaper q ≡ paper.accepted (1 ∷ t ∷ []))
 
   pub record Demand3 (r : TypeAnswer) (d′ : List ℕ) : Type 0 where
-    pub accepted : (t : ℕ) → typePaper r ≡ paper.accepted (t ∷ []) ↔ ((e : Tree) × (ls : List Line) × Giving e t ls × Room ls)
+    pub accepted : (t n : ℕ) → typePaper r ≡ paper.accepted (t ∷ n ∷ [])
+        ↔ ((e : Tree) × (ls : List Line) × Giving e t ls × Room ls × (length (encode ls) ≡ n))
     pub worksheet : (e : Tree) (t : ℕ) (ls : List Line) → Giving e t ls → Room ls → Worksheet d′ e t ls
     pub refused : ((e : Tree) (t : ℕ) (ls : List Line) → Giving e t ls → Room ls)
-        → ((n : ℕ) × (p : ℕ) × (typePaper r ≡ paper.refusal n p (255 ∷ [])))
+        → ((n : ℕ) × (p : ℕ) × (typePaper r ≡ paper.refusal n p noType))
         ↔ (((e : Tree) → Spells s e → ⊥) ⊎ ((e : Tree) × Spells s e × Stuck listingOf switch e))
     pub short : (e : Tree) (t : ℕ) (ls : List Line) → Giving e t ls → length d < length (encode ls)
-        → typePaper r ≡ paper.refusal 10 (length (encode ls)) (255 ∷ [])
+        → typePaper r ≡ paper.refusal 10 (length (encode ls)) noType
     pub suffices : enoughBytes ≤ length d → (e : Tree) (t : ℕ) (ls : List Line) → Giving e t ls → Room ls
-    pub kept : (n p : ℕ) → typePaper r ≡ paper.refusal n p (255 ∷ []) → d′ ≡ d
+    pub kept : (n p : ℕ) → typePaper r ≡ paper.refusal n p noType → d′ ≡ d
 
 -- of every call that the contract permits: its bytes, its switch, and its buffer before and after
 abbrev pub Theorem : Type 0

@@ -7,24 +7,23 @@ use Rattle.scalars.proofs as scalars
 use Rattle.scalars.proofs.one_bits_iter as one_bits_iter
 use Rattle.scalars.proofs.refusal as refusal
 use Rattle.scalars.proofs.scalar_set as scalar_set
-use Rattle.domain.proofs as domain
-use Rattle.domain.proofs.constructor_set as constructor_set
+use Rattle.types.proofs as types
+use Rattle.types.proofs.constructor_set as constructor_set
 use Rattle.expressions.proofs as expressions
 use Rattle.rules.proofs as rules
 use Rattle.rules.proofs.rule as rule
 use Rattle.regular.proofs.regular as regular
-use Rattle.listed.proofs as listed
 use Rattle.functions.proofs as functions
 use Rattle.lists.proofs as lists
+use Rattle.lists.proofs.any_overload_set as any_overload_set
 use Rattle.lists.proofs.list as list
-use Rattle.overloads.proofs as overloads
-use Rattle.sets.proofs.any_overload_set as any_overload_set
+use Rattle.calls.proofs as calls
 use Rattle.lent_masks.proofs as lent_masks
-use Rattle.handmade.proofs as handmade
+use Rattle.c_sets.proofs as c_sets
 use Rattle.machine.proofs as machine
 use Rattle.worksheet.proofs as worksheet
 use Rattle.c_answers.proofs as c_answers
-use Rattle.bindings.proofs as bindings
+use Rattle.azwukran.proofs as azwukran
 
 -- of a function's parameters and result, and of what its clauses permit; v and w are what lent slices hold at the end
 abbrev pub OneAnswer : (T : Ended) → Post T → Type 0
@@ -50,7 +49,7 @@ pub record EachFunction : Type 0 where
   pub «ScalarSet::members» : OneAnswer scalar_set.ScalarSet.members.ended scalar_set.ScalarSet.members.Reads.Post
   pub «ScalarSet::named» : OneAnswer scalar_set.ScalarSet.named.ended scalar_set.ScalarSet.named.Reads.Post
   pub «ScalarSet::singles» : OneAnswer scalar_set.ScalarSet.singles.ended scalar_set.ScalarSet.singles.Reads.Post
-  -- domain
+  -- types
   pub «ConstructorSet::singleton» : OneAnswer constructor_set.ConstructorSet.singleton.ended constructor_set.ConstructorSet.singleton.Reads.Post
   pub «ConstructorSet::meet» : OneAnswer constructor_set.ConstructorSet.meet.ended constructor_set.ConstructorSet.meet.Reads.Post
   pub «ConstructorSet::is_singleton» : OneAnswer constructor_set.ConstructorSet.is_singleton.ended constructor_set.ConstructorSet.is_singleton.Reads.Post
@@ -60,14 +59,14 @@ pub record EachFunction : Type 0 where
   pub «ConstructorSet::vecn» : OneAnswer constructor_set.ConstructorSet.vecn.ended constructor_set.ConstructorSet.vecn.Reads.Post
   pub «ConstructorSize::constructor» : OneAnswer constructor_set.ConstructorSize.constructor.ended constructor_set.ConstructorSize.constructor.Reads.Post
   pub «ConstructorSize::to_inner» : OneAnswer constructor_set.ConstructorSize.to_inner.ended constructor_set.ConstructorSize.to_inner.Reads.Post
-  pub «automatically_converts_to» : OneAnswer domain.automatically_converts_to.ended domain.automatically_converts_to.Reads.Post
-  pub «automatic_conversion_combine» : OneAnswer domain.automatic_conversion_combine.ended domain.automatic_conversion_combine.Reads.Post
-  pub «automatic_conversion_consensus» : OneAnswer domain.automatic_conversion_consensus.ended domain.automatic_conversion_consensus.Reads.Post
-  pub «type_parts» : OneAnswer domain.type_parts.ended domain.type_parts.Reads.Post
-  pub «code_of» : OneAnswer domain.code_of.ended domain.code_of.Reads.Post
-  pub «leaf_scalar» : OneAnswer domain.leaf_scalar.ended domain.leaf_scalar.Reads.Post
-  pub «is_abstract» : OneAnswer domain.is_abstract.ended domain.is_abstract.Reads.Post
-  pub «first_unknown» : OneAnswer domain.first_unknown.ended domain.first_unknown.Reads.Post
+  pub «automatically_converts_to» : OneAnswer types.automatically_converts_to.ended types.automatically_converts_to.Reads.Post
+  pub «automatic_conversion_combine» : OneAnswer types.automatic_conversion_combine.ended types.automatic_conversion_combine.Reads.Post
+  pub «automatic_conversion_consensus» : OneAnswer types.automatic_conversion_consensus.ended types.automatic_conversion_consensus.Reads.Post
+  pub «type_parts» : OneAnswer types.type_parts.ended types.type_parts.Reads.Post
+  pub «code_of» : OneAnswer types.code_of.ended types.code_of.Reads.Post
+  pub «leaf_scalar» : OneAnswer types.leaf_scalar.ended types.leaf_scalar.Reads.Post
+  pub «is_abstract» : OneAnswer types.is_abstract.ended types.is_abstract.Reads.Post
+  pub «first_unknown» : OneAnswer types.first_unknown.ended types.first_unknown.Reads.Post
   -- expressions
   pub «read_expression» : OneAnswer expressions.read_expression.ended expressions.read_expression.Reads.Post
   -- rules
@@ -97,14 +96,23 @@ pub record EachFunction : Type 0 where
   pub «Regular::rule_of» : OneAnswer regular.Regular.rule_of.ended regular.Regular.rule_of.Reads.Post
   pub «Regular::overload_list» : OneAnswer regular.Regular.overload_list.ended regular.Regular.overload_list.Reads.Post
   pub «Regular::allowed_args» : OneAnswer regular.Regular.allowed_args.ended regular.Regular.allowed_args.Reads.Post
-  -- listed
-  pub «rule_count» : OneAnswer listed.rule_count.ended listed.rule_count.Reads.Post
-  pub «listed_rule» : OneAnswer listed.listed_rule.ended listed.listed_rule.Reads.Post
   -- functions
   pub «rule_at» : OneAnswer functions.rule_at.ended functions.rule_at.Reads.Post
+  pub «rule_count» : OneAnswer functions.rule_count.ended functions.rule_count.Reads.Post
+  pub «listed_rule» : OneAnswer functions.listed_rule.ended functions.listed_rule.Reads.Post
   pub «function_set» : OneAnswer functions.function_set.ended functions.function_set.Reads.Post
   pub «rule_total» : OneAnswer functions.rule_total.ended functions.rule_total.Reads.Post
   -- lists
+  pub «AnyOverloadSet::from_regular» : OneAnswer any_overload_set.AnyOverloadSet.from_regular.ended any_overload_set.AnyOverloadSet.from_regular.Reads.Post
+  pub «AnyOverloadSet::from_list» : OneAnswer any_overload_set.AnyOverloadSet.from_list.ended any_overload_set.AnyOverloadSet.from_list.Reads.Post
+  pub «AnyOverloadSet::is_empty» : OneAnswer any_overload_set.AnyOverloadSet.is_empty.ended any_overload_set.AnyOverloadSet.is_empty.Reads.Post
+  pub «AnyOverloadSet::min_arguments» : OneAnswer any_overload_set.AnyOverloadSet.min_arguments.ended any_overload_set.AnyOverloadSet.min_arguments.Reads.Post
+  pub «AnyOverloadSet::max_arguments» : OneAnswer any_overload_set.AnyOverloadSet.max_arguments.ended any_overload_set.AnyOverloadSet.max_arguments.Reads.Post
+  pub «AnyOverloadSet::arg» : OneAnswer any_overload_set.AnyOverloadSet.arg.ended any_overload_set.AnyOverloadSet.arg.Reads.Post
+  pub «AnyOverloadSet::concrete_only» : OneAnswer any_overload_set.AnyOverloadSet.concrete_only.ended any_overload_set.AnyOverloadSet.concrete_only.Reads.Post
+  pub «AnyOverloadSet::most_preferred» : OneAnswer any_overload_set.AnyOverloadSet.most_preferred.ended any_overload_set.AnyOverloadSet.most_preferred.Reads.Post
+  pub «AnyOverloadSet::overload_list» : OneAnswer any_overload_set.AnyOverloadSet.overload_list.ended any_overload_set.AnyOverloadSet.overload_list.Reads.Post
+  pub «AnyOverloadSet::allowed_args» : OneAnswer any_overload_set.AnyOverloadSet.allowed_args.ended any_overload_set.AnyOverloadSet.allowed_args.Reads.Post
   pub «expand» : OneAnswer lists.expand.ended lists.expand.Reads.Post
   pub «List::from_rules» : OneAnswer list.List.from_rules.ended list.List.from_rules.Reads.Post
   pub «List::checked» : OneAnswer list.List.checked.ended list.List.checked.Reads.Post
@@ -118,34 +126,23 @@ pub record EachFunction : Type 0 where
   pub «List::allowed_args» : OneAnswer list.List.allowed_args.ended list.List.allowed_args.Reads.Post
   pub «filter» : OneAnswer lists.filter.ended lists.filter.Reads.Post
   pub «longest» : OneAnswer lists.longest.ended lists.longest.Reads.Post
-  -- overloads
-  pub «call_of» : OneAnswer overloads.call_of.ended overloads.call_of.Reads.Post
-  pub «survivors_of» : OneAnswer overloads.survivors_of.ended overloads.survivors_of.Reads.Post
-  pub «list_of» : OneAnswer overloads.list_of.ended overloads.list_of.Reads.Post
-  -- sets
-  pub «AnyOverloadSet::from_regular» : OneAnswer any_overload_set.AnyOverloadSet.from_regular.ended any_overload_set.AnyOverloadSet.from_regular.Reads.Post
-  pub «AnyOverloadSet::from_list» : OneAnswer any_overload_set.AnyOverloadSet.from_list.ended any_overload_set.AnyOverloadSet.from_list.Reads.Post
-  pub «AnyOverloadSet::is_empty» : OneAnswer any_overload_set.AnyOverloadSet.is_empty.ended any_overload_set.AnyOverloadSet.is_empty.Reads.Post
-  pub «AnyOverloadSet::min_arguments» : OneAnswer any_overload_set.AnyOverloadSet.min_arguments.ended any_overload_set.AnyOverloadSet.min_arguments.Reads.Post
-  pub «AnyOverloadSet::max_arguments» : OneAnswer any_overload_set.AnyOverloadSet.max_arguments.ended any_overload_set.AnyOverloadSet.max_arguments.Reads.Post
-  pub «AnyOverloadSet::arg» : OneAnswer any_overload_set.AnyOverloadSet.arg.ended any_overload_set.AnyOverloadSet.arg.Reads.Post
-  pub «AnyOverloadSet::concrete_only» : OneAnswer any_overload_set.AnyOverloadSet.concrete_only.ended any_overload_set.AnyOverloadSet.concrete_only.Reads.Post
-  pub «AnyOverloadSet::most_preferred» : OneAnswer any_overload_set.AnyOverloadSet.most_preferred.ended any_overload_set.AnyOverloadSet.most_preferred.Reads.Post
-  pub «AnyOverloadSet::overload_list» : OneAnswer any_overload_set.AnyOverloadSet.overload_list.ended any_overload_set.AnyOverloadSet.overload_list.Reads.Post
-  pub «AnyOverloadSet::allowed_args» : OneAnswer any_overload_set.AnyOverloadSet.allowed_args.ended any_overload_set.AnyOverloadSet.allowed_args.Reads.Post
+  -- calls
+  pub «call_of» : OneAnswer calls.call_of.ended calls.call_of.Reads.Post
+  pub «survivors_of» : OneAnswer calls.survivors_of.ended calls.survivors_of.Reads.Post
+  pub «list_of» : OneAnswer calls.list_of.ended calls.list_of.Reads.Post
   -- lent_masks
   pub «mask_in» : OneAnswer lent_masks.mask_in.ended lent_masks.mask_in.Reads.Post
   pub «lend_mask» : OneAnswer lent_masks.lend_mask.ended lent_masks.lend_mask.Reads.Post
-  -- handmade
-  pub «list_from» : OneAnswer handmade.list_from.ended handmade.list_from.Reads.Post
-  pub «list_arg» : OneAnswer handmade.list_arg.ended handmade.list_arg.Reads.Post
-  pub «list_concrete_only» : OneAnswer handmade.list_concrete_only.ended handmade.list_concrete_only.Reads.Post
-  pub «list_preferred» : OneAnswer handmade.list_preferred.ended handmade.list_preferred.Reads.Post
-  pub «regular_from» : OneAnswer handmade.regular_from.ended handmade.regular_from.Reads.Post
-  pub «regular_arg» : OneAnswer handmade.regular_arg.ended handmade.regular_arg.Reads.Post
-  pub «regular_concrete_only» : OneAnswer handmade.regular_concrete_only.ended handmade.regular_concrete_only.Reads.Post
-  pub «regular_preferred» : OneAnswer handmade.regular_preferred.ended handmade.regular_preferred.Reads.Post
-  pub «regular_rule» : OneAnswer handmade.regular_rule.ended handmade.regular_rule.Reads.Post
+  -- c_sets
+  pub «list_from» : OneAnswer c_sets.list_from.ended c_sets.list_from.Reads.Post
+  pub «list_arg» : OneAnswer c_sets.list_arg.ended c_sets.list_arg.Reads.Post
+  pub «list_concrete_only» : OneAnswer c_sets.list_concrete_only.ended c_sets.list_concrete_only.Reads.Post
+  pub «list_preferred» : OneAnswer c_sets.list_preferred.ended c_sets.list_preferred.Reads.Post
+  pub «regular_from» : OneAnswer c_sets.regular_from.ended c_sets.regular_from.Reads.Post
+  pub «regular_arg» : OneAnswer c_sets.regular_arg.ended c_sets.regular_arg.Reads.Post
+  pub «regular_concrete_only» : OneAnswer c_sets.regular_concrete_only.ended c_sets.regular_concrete_only.Reads.Post
+  pub «regular_preferred» : OneAnswer c_sets.regular_preferred.ended c_sets.regular_preferred.Reads.Post
+  pub «regular_rule» : OneAnswer c_sets.regular_rule.ended c_sets.regular_rule.Reads.Post
   -- machine
   pub «run_worksheet» : OneAnswer machine.run_worksheet.ended machine.run_worksheet.Reads.Post
   -- worksheet
@@ -156,17 +153,17 @@ pub record EachFunction : Type 0 where
   pub «regular_for_c» : OneAnswer c_answers.regular_for_c.ended c_answers.regular_for_c.Reads.Post
   pub «consensus_for_c» : OneAnswer c_answers.consensus_for_c.ended c_answers.consensus_for_c.Reads.Post
   pub «mask_for_c» : OneAnswer c_answers.mask_for_c.ended c_answers.mask_for_c.Reads.Post
-  -- bindings
-  pub «azwukran_call» : OneAnswer bindings.azwukran_call.ended bindings.azwukran_call.Reads.Post
-  pub «azwukran_survivors» : OneAnswer bindings.azwukran_survivors.ended bindings.azwukran_survivors.Reads.Post
-  pub «azwukran_rule» : OneAnswer bindings.azwukran_rule.ended bindings.azwukran_rule.Reads.Post
-  pub «azwukran_consensus» : OneAnswer bindings.azwukran_consensus.ended bindings.azwukran_consensus.Reads.Post
-  pub «azwukran_list_arg» : OneAnswer bindings.azwukran_list_arg.ended bindings.azwukran_list_arg.Reads.Post
-  pub «azwukran_list_concrete_only» : OneAnswer bindings.azwukran_list_concrete_only.ended bindings.azwukran_list_concrete_only.Reads.Post
-  pub «azwukran_list_preferred» : OneAnswer bindings.azwukran_list_preferred.ended bindings.azwukran_list_preferred.Reads.Post
-  pub «azwukran_regular_arg» : OneAnswer bindings.azwukran_regular_arg.ended bindings.azwukran_regular_arg.Reads.Post
-  pub «azwukran_regular_concrete_only» : OneAnswer bindings.azwukran_regular_concrete_only.ended bindings.azwukran_regular_concrete_only.Reads.Post
-  pub «azwukran_regular_preferred» : OneAnswer bindings.azwukran_regular_preferred.ended bindings.azwukran_regular_preferred.Reads.Post
-  pub «azwukran_regular_rule» : OneAnswer bindings.azwukran_regular_rule.ended bindings.azwukran_regular_rule.Reads.Post
-  pub «azwukran_type» : OneAnswer bindings.azwukran_type.ended bindings.azwukran_type.Reads.Post
-  pub «azwukran_run» : OneAnswer bindings.azwukran_run.ended bindings.azwukran_run.Reads.Post
+  -- azwukran
+  pub «azwukran_list_arg» : OneAnswer azwukran.azwukran_list_arg.ended azwukran.azwukran_list_arg.Reads.Post
+  pub «azwukran_list_concrete_only» : OneAnswer azwukran.azwukran_list_concrete_only.ended azwukran.azwukran_list_concrete_only.Reads.Post
+  pub «azwukran_list_preferred» : OneAnswer azwukran.azwukran_list_preferred.ended azwukran.azwukran_list_preferred.Reads.Post
+  pub «azwukran_regular_arg» : OneAnswer azwukran.azwukran_regular_arg.ended azwukran.azwukran_regular_arg.Reads.Post
+  pub «azwukran_regular_concrete_only» : OneAnswer azwukran.azwukran_regular_concrete_only.ended azwukran.azwukran_regular_concrete_only.Reads.Post
+  pub «azwukran_regular_preferred» : OneAnswer azwukran.azwukran_regular_preferred.ended azwukran.azwukran_regular_preferred.Reads.Post
+  pub «azwukran_regular_rule» : OneAnswer azwukran.azwukran_regular_rule.ended azwukran.azwukran_regular_rule.Reads.Post
+  pub «azwukran_call» : OneAnswer azwukran.azwukran_call.ended azwukran.azwukran_call.Reads.Post
+  pub «azwukran_survivors» : OneAnswer azwukran.azwukran_survivors.ended azwukran.azwukran_survivors.Reads.Post
+  pub «azwukran_rule» : OneAnswer azwukran.azwukran_rule.ended azwukran.azwukran_rule.Reads.Post
+  pub «azwukran_consensus» : OneAnswer azwukran.azwukran_consensus.ended azwukran.azwukran_consensus.Reads.Post
+  pub «azwukran_type» : OneAnswer azwukran.azwukran_type.ended azwukran.azwukran_type.Reads.Post
+  pub «azwukran_run» : OneAnswer azwukran.azwukran_run.ended azwukran.azwukran_run.Reads.Post

@@ -5,14 +5,12 @@
 // end without keeping it.
 
 ghost use mathlib.Core.Path.{_≡_};
+ghost use Prim.Native.Nat.{_≤_};
 ghost use lib.ListN.{length};
 use libc::STDIN_FILENO;
 use libc::STDOUT_FILENO;
 use worksheet::TypeAnswer;
 use worksheet::type_expression;
-
-// No line begins with this tag, so in a buffer filled with it the worksheet ends where it is met.
-const UNWRITTEN: u8 = 255;
 
 // The bytes of a line.
 const LINE: usize = 4;
@@ -21,7 +19,7 @@ fn main() {
     let mut space = io::buffer();
     let n = io::read_full(STDIN_FILENO, &mut space);
     skip_rest();
-    let mut sheet = unwritten();
+    let mut sheet = room();
     answer(&space[..n], &mut sheet);
 }
 
@@ -29,18 +27,18 @@ fn main() {
 fn answer(input: &[u8], sheet: &mut [u8]) {
     match type_expression(input, false, sheet) {
         TypeAnswer::Refused(why) => print_answer(why.number(), why.place(), 255),
-        TypeAnswer::Typed(code) => {
+        TypeAnswer::Typed { code, len } => {
             print_answer(0, 0, code);
-            print_sheet(sheet);
+            print_sheet(sheet, len);
         }
     }
 }
 
-// A buffer of 508 bytes in which nothing was written.
-fn unwritten() -> [u8; 508]
+// Room for any worksheet.
+fn room() -> [u8; 508]
     ensures { λ r. ⌜ 508 ≡ length r ⌝ }
 {
-    [UNWRITTEN; 508]
+    [0; 508]
 }
 
 // Reads what is left of standard input, up to more than any disk holds.
@@ -67,13 +65,17 @@ fn print_answer(number: u8, place: usize, code: u8) {
     print_number(code as u64, b"\n");
 }
 
-// The lines of a worksheet, up to the first that was not written.
-fn print_sheet(sheet: &[u8]) {
+// The worksheet in the first `len` bytes of the buffer.
+fn print_sheet(buffer: &[u8], len: usize)
+    requires { ⌜ len ≤ length (now buffer) ⌝ }
+{
+    print_lines(&buffer[..len]);
+}
+
+// The lines of a worksheet.
+fn print_lines(sheet: &[u8]) {
     let mut at: usize = 0;
     while at < sheet.len() {
-        if sheet[at] == UNWRITTEN {
-            return;
-        }
         print_line(&sheet[at..]);
         if sheet.len() - at <= LINE {
             return;

@@ -13,13 +13,13 @@ use Rattle.scalars.specs.Mask.{choose}
 use Rattle.scalars.specs.Domain.{firstUnknown}
 use Rattle.rules.specs.Signature.{Signature}
 use Rattle.rules.specs.Rule.{argumentsOf, ruleOf}
-use Rattle.overloads.specs.Choice.{Choice, chosen, wrongCount, noneAfter, noneConcrete, resolve}
-use Rattle.overloads.specs.claims.Taking.{OneLength, Says}
-use Rattle.overloads.proofs.Choices.{resolve-says}
+use Rattle.calls.specs.Choice.{Choice, chosen, wrongCount, noneAfter, noneConcrete, resolve}
+use Rattle.calls.specs.claims.Taking.{OneLength, Says}
+use Rattle.calls.proofs.Choices.{resolve-says}
 use Rattle.rules.proofs.Records.{record-says}
 use Rattle.rules.proofs.RulePapers.{ruleNamed}
 use Rattle.functions.specs.Functions.{functionCount, listingOf}
-use Rattle.overloads.specs.Call.{answered, callOf}
+use Rattle.calls.specs.Call.{answered, callOf}
 use Rattle.scalars.specs.Paper.{Paper, accepted, refusal}
 use Rattle.rules.specs.RulePaper.{ruleValues}
 use Rattle.lists.specs.ChosenPaper.{noChoice}

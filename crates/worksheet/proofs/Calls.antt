@@ -11,9 +11,9 @@ use lib.Seq.{take-add, take-at, drop-at, getD-take, getD-append-add}
 use Rattle.scalars.specs.Domain.{firstUnknown}
 use Rattle.rules.specs.Rule.{argumentsOf, ruleOf}
 use Rattle.rules.specs.Signature.{Signature}
-use Rattle.overloads.specs.Choice.{Choice, chosen, wrongCount, noneAfter, noneConcrete, resolve}
+use Rattle.calls.specs.Choice.{Choice, chosen, wrongCount, noneAfter, noneConcrete, resolve}
 use Rattle.functions.specs.Functions.{functionCount, listingOf}
-use Rattle.overloads.specs.Call.{answered, callOf}
+use Rattle.calls.specs.Call.{answered, callOf}
 use Rattle.rules.specs.declared.rule.Rule.{Rule}
 use Rattle.lists.specs.declared.list.Chosen.{Chosen}
 use Rattle.scalars.specs.declared.refusal.Refusal.{Refusal}

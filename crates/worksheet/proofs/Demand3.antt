@@ -11,7 +11,7 @@ use native.Mathlib.Omega.{arith}
 use lib.ListN.{length}
 use borrow.Author.Tests.{le-leb}
 use Rattle.rules.specs.Signature.{Signature}
-use Rattle.overloads.specs.claims.Taking.{OneLength}
+use Rattle.calls.specs.claims.Taking.{OneLength}
 use Rattle.expressions.specs.Tree.{Tree}
 use Rattle.expressions.specs.claims.Limits.{WellFormed}
 use Rattle.machine.specs.Line.{Line, encode}

@@ -1,6 +1,6 @@
 -- The typer answers exactly what `specs/Meaning.antt` and `specs/Fault.antt` say: it accepts an expression, with its type and lines,
 -- just where the expression gives them, and refuses it, with its refusal, just where it fails so; an expression is stuck just where
--- it fails, and then it gives nothing. Where every listing has one rule length; of each call by the law of `overloads` (Demand 2).
+-- it fails, and then it gives nothing. Where every listing has one rule length; of each call by the law of `calls` (Demand 2).
 -- Assumes nothing.
 use mathlib.Core.Path.{_≡_, refl, ap, _∙_}
 use mathlib.Core.Bool.{Bool}
@@ -9,10 +9,10 @@ use Prim.Native.Nat.{ℕ, _<_}
 use native.Mathlib.Omega.{arith}
 use lib.ListN.{length}
 use Rattle.rules.specs.Signature.{Signature}
-use Rattle.overloads.specs.Choice.{Choice, chosen, wrongCount, noneAfter, noneConcrete, resolve}
-use Rattle.overloads.specs.claims.Taking.{NoRule, Best, OneLength, Says}
-use Rattle.overloads.proofs.Choices.{resolve-says}
-use Rattle.overloads.proofs.Demand2.{exactly}
+use Rattle.calls.specs.Choice.{Choice, chosen, wrongCount, noneAfter, noneConcrete, resolve}
+use Rattle.calls.specs.claims.Taking.{NoRule, Best, OneLength, Says}
+use Rattle.calls.proofs.Choices.{resolve-says}
+use Rattle.calls.proofs.Demand2.{exactly}
 use Rattle.expressions.specs.Tree.{Tree, Trees, leaf, call, none, more}
 use Rattle.machine.specs.Line.{Line}
 use Rattle.worksheet.specs.Places.{inside, behind, starts}

@@ -16,5 +16,6 @@ pub mod Passes
 pub mod Whole
 pub mod RootAnswers
 pub mod Papers
+pub mod Lengths
 pub mod Readings
 pub mod OurFunctions

@@ -8,7 +8,7 @@ use Prim.Native.Nat.{ℕ, _≤_, _<_}
 use lib.ListN.{length, getD}
 use borrow.Author.Tests.{le-ltb}
 use Rattle.rules.specs.Signature.{Signature, reaches}
-use Rattle.overloads.specs.claims.Taking.{NoRule}
+use Rattle.calls.specs.claims.Taking.{NoRule}
 
 pub reaches-nothing : (t a : ℕ) → 156 ≤ t → reaches t a ≡ false
 unfolding reaches

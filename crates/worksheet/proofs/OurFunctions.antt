@@ -3,7 +3,7 @@ use mathlib.Core.Bool.{Bool}
 use Rattle.functions.specs.Functions.{functionCount, listingOf}
 use Rattle.expressions.specs.Tree.{Tree}
 use Rattle.expressions.specs.claims.Limits.{WellFormed}
-use Rattle.overloads.specs.claims.Taking.{OneLength}
+use Rattle.calls.specs.claims.Taking.{OneLength}
 use Rattle.worksheet.specs.claims.Demand3.{Demand3}
 use Rattle.functions.proofs.Database.{one-length}
 use Rattle.worksheet.proofs.Demand3.{demand-3}

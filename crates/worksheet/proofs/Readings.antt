@@ -2,16 +2,16 @@
 use mathlib.Core.Path.{_≡_, refl}
 use Rattle.scalars.specs.Mask.{bits}
 use Rattle.scalars.specs.Domain.{converts, isAbstract, firstUnknown}
-use Rattle.domain.specs.Conversion.{combination, agree, consensusOf}
-use Rattle.domain.specs.TypeCode.{predeclaredCode}
+use Rattle.types.specs.Conversion.{combination, agree, consensusOf}
+use Rattle.types.specs.TypeCode.{predeclaredCode}
 use Rattle.rules.specs.Signature.{reaches}
-use Rattle.overloads.specs.Choice.{narrow, resolve}
+use Rattle.calls.specs.Choice.{narrow, resolve}
 use Rattle.rules.specs.Rule.{ruleOf}
 use Rattle.regular.specs.Regular.{codesOf, concludedOf, regularRules}
-use Rattle.listed.specs.Sequences.{floatScalars, concreteFloatScalars, concreteIntScalars, vectorSizes, vector, matrix, scalarOrVecn}
-use Rattle.listed.specs.ListedRules.{listedRules}
+use Rattle.functions.specs.Sequences.{floatScalars, concreteFloatScalars, concreteIntScalars, vectorSizes, vector, matrix, scalarOrVecn}
+use Rattle.functions.specs.ListedRules.{listedRules}
 use Rattle.functions.specs.Functions.{functionSets, functionSetOf, listingOf}
-use Rattle.overloads.specs.Call.{callOf, survivorsOf, survivorsOfCall}
+use Rattle.calls.specs.Call.{callOf, survivorsOf, survivorsOfCall}
 use Rattle.expressions.specs.Reading.{argsAt, leafAt, callAt, taggedAt, nodeAt, expressionOf}
 use Rattle.machine.specs.Line.{encode}
 use Rattle.worksheet.specs.Typer.{typeOf, typeAll}

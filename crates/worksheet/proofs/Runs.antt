@@ -12,7 +12,7 @@ use lib.Seq.{take-at, drop-at, getD-at, set-at}
 use borrow.Author.Tests.{eqb-true, eq-eqb, lt-ltb, le-leb}
 use Rattle.scalars.specs.Mask.{choose}
 use Rattle.rules.specs.Signature.{Signature, reaches}
-use Rattle.overloads.specs.claims.Taking.{Takes}
+use Rattle.calls.specs.claims.Taking.{Takes}
 use Rattle.expressions.specs.Tree.{Tree, Trees, leaf, call, none, more, nodes, nodesAll, lastLeaf}
 use Rattle.expressions.specs.claims.Limits.{Known, KnownAll}
 use Rattle.machine.specs.Line.{Line, leafLine, conversionLine, callLine, conversions, callLines}

@@ -9,7 +9,7 @@ use native.Mathlib.Omega.{arith}
 use borrow.Author.Tests.{le-leb}
 use lib.ListN.{length, length-append}
 use Rattle.scalars.specs.Domain.{firstUnknown}
-use Rattle.overloads.specs.Choice.{Choice, chosen, wrongCount, noneAfter, noneConcrete, resolve}
+use Rattle.calls.specs.Choice.{Choice, chosen, wrongCount, noneAfter, noneConcrete, resolve}
 use Rattle.functions.specs.Functions.{functionCount, listingOf}
 use Rattle.expressions.specs.Tree.{Tree, Trees, leaf, call, none, more, count, nodes, nodesAll}
 use Rattle.expressions.specs.claims.Limits.{Known, KnownAll}

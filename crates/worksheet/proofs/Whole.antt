@@ -21,7 +21,7 @@ use Rattle.machine.specs.Line.{Line, encode}
 use Rattle.worksheet.specs.Typer.{Typed, typed, refused, typeOf}
 use Rattle.worksheet.specs.Answer.{withRoom, bufferAfter}
 use Rattle.worksheet.specs.claims.Room.{enoughBytes}
-use Rattle.worksheet.specs.Typing.{typingOf, typing, answerOf}
+use Rattle.worksheet.specs.Typing.{typingOf, typing, noType, answerOf}
 use Rattle.worksheet.specs.private.Sheet.{written, roomFor, placed}
 use Rattle.worksheet.specs.private.Stack.{typesOn}
 use Rattle.worksheet.specs.private.SecondPass.{NodeThere, NodeClaim, NodeTyped, SheetFits, roomAnswer, rootAnswer, rootBuffer}
@@ -40,11 +40,11 @@ Answered d x a d′ = (a ≡ answerOf x) × (d′ ≡ bufferAfter x d)
 -- the room comes last
 with-room : (d : List ℕ) (t : ℕ) (ls : List Line) (result needed : ℕ) (bs : List ℕ)
     → result ≡ t → bs ≡ encode ls → needed ≡ length (encode ls)
-    → Answered d (withRoom d (typed t ls)) (roomAnswer result (roomFor needed (length d))) (placed bs d)
+    → Answered d (withRoom d (typed t ls)) (roomAnswer result needed (roomFor needed (length d))) (placed bs d)
 with-room d t ls result needed bs re be ne = go (decLt (length d) (length (encode ls)))
   where
     go : Dec (length d < length (encode ls))
-        → Answered d (withRoom d (typed t ls)) (roomAnswer result (roomFor needed (length d))) (placed bs d)
+        → Answered d (withRoom d (typed t ls)) (roomAnswer result needed (roomFor needed (length d))) (placed bs d)
     go (yes h) =
         rw (re, be, ne, lt-ltb (length d) (length (encode ls)) h, lt-leb (length (encode ls)) (length d) h)
         (refl, placed-short (encode ls) d h)
@@ -55,7 +55,7 @@ with-room d t ls result needed bs re be ne = go (decLt (length d) (length (encod
 
 module _ (switch : Bool) (s d : List ℕ) where
   pub first-fault : (n p : ℕ) → refusal n p (255 ∷ []) ≡ readOf (expressionOf functionCount s)
-      → Answered d (typing switch s d) (refusal n p (255 ∷ [])) d
+      → Answered d (typing switch s d) (refusal n p noType) d
   unfolding typingOf
   first-fault n p e = rw (refused-fault (expressionOf functionCount s) n p e) (refl, refl)
 

@@ -4,7 +4,7 @@ use mathlib.Core.List.{List, [], _∷_, _++_}
 use Prim.Native.Nat.{ℕ}
 use lib.ListN.{getD}
 use Rattle.rules.specs.Signature.{Signature}
-use Rattle.overloads.specs.Choice.{Choice, chosen, wrongCount, noneAfter, noneConcrete, resolve}
+use Rattle.calls.specs.Choice.{Choice, chosen, wrongCount, noneAfter, noneConcrete, resolve}
 use Rattle.expressions.specs.Tree.{Tree, Trees, leaf, call, none, more}
 use Rattle.worksheet.specs.Places.{inside, behind, starts}
 use Rattle.machine.specs.Line.{Line, leafLine, callLines}

@@ -3,11 +3,13 @@
 use mathlib.Core.Bool.{Bool}
 use mathlib.Core.List.{List, [], _∷_}
 use Prim.Native.Nat.{ℕ}
+use lib.ListN.{length}
 use Rattle.scalars.specs.Paper as paper
 use Rattle.scalars.specs.Paper.{Paper}
 use Rattle.rules.specs.Signature.{Signature}
 use Rattle.functions.specs.Functions.{functionCount, listingOf}
 use Rattle.expressions.specs.Reading.{Expression, read, refusedAs, expressionOf}
+use Rattle.machine.specs.Line.{encode}
 use Rattle.worksheet.specs.declared.typer.TypeAnswer.{TypeAnswer}
 use Rattle.worksheet.specs.declared.typer.TypeAnswer.the-variants as answer
 use Rattle.worksheet.specs.Typer.{Typed, typed, refused, typeOf}
@@ -26,12 +28,15 @@ typingOf functions listing switch s buffer = afterReading listing switch buffer 
 abbrev pub typing : Bool → List ℕ → List ℕ → Typed ℕ
 typing switch s buffer = typingOf functionCount listingOf switch s buffer
 
--- the paper's number, place and type, 255 for the type of what is refused: of a typing, whose lines stand in the buffer, and of each
--- case of the answer
+-- the paper's number and place, the type, and the worksheet's length in bytes, 255 for both of what is refused: of a typing, whose lines
+-- stand in the buffer, and of each case of the answer
+abbrev pub noType : List ℕ
+noType = 255 ∷ 255 ∷ []
+
 abbrev pub answerOf : Typed ℕ → Paper
-answerOf (typed t ls) = paper.accepted (t ∷ [])
-answerOf (refused number place) = paper.refusal number place (255 ∷ [])
+answerOf (typed t ls) = paper.accepted (t ∷ length (encode ls) ∷ [])
+answerOf (refused number place) = paper.refusal number place noType
 
 abbrev pub typePaper : TypeAnswer → Paper
-typePaper (answer.Typed t) = paper.accepted (t ∷ [])
-typePaper (answer.Refused why) = paper.refused why (255 ∷ [])
+typePaper (answer.Typed t n) = paper.accepted (t ∷ n ∷ [])
+typePaper (answer.Refused why) = paper.refused why noType

@@ -1,5 +1,5 @@
 // The typer: the type of an expression and its worksheet, by the first pass of the crate `expressions` and the single calls of the
-// crate `overloads`. The strict machine that runs the worksheet stands in the crate `machine`.
+// crate `calls`. The strict machine that runs the worksheet stands in the crate `machine`.
 mod one_call;
 mod progress;
 mod sheet;

@@ -1,4 +1,4 @@
-// One call in the second pass, once its operands are typed: its rule by the crate `overloads`, the conversions that the rule asks for,
+// One call in the second pass, once its operands are typed: its rule by the crate `calls`, the conversions that the rule asks for,
 // the call's own line, and the result in place of the operands; or the refusal, with its place in the expression.
 
 ghost use mathlib.Core.Path.{_≡_};
@@ -13,12 +13,12 @@ use crate::progress::Progress;
 use crate::progress::Verdict;
 use crate::sheet::Sheet;
 use crate::stack::Stack;
+use calls::call_of;
 use expressions::MOST_NODES;
 use lists::ChosenAnswer;
 use machine::CALL_LINE;
 use machine::CONVERSION_LINE;
 use machine::SPARE;
-use overloads::call_of;
 use rules::Rule;
 use scalars::Refusal;
 

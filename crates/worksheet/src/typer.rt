@@ -27,8 +27,8 @@ use scalars::Refusal;
 
 // The answer to an expression.
 pub enum TypeAnswer {
-    // Accepted: its type. The worksheet stands in front of the lent buffer.
-    Typed(u8),
+    // Accepted: its type, and how many bytes the worksheet takes, which stands in front of the lent buffer.
+    Typed { code: u8, len: usize },
     // The first fault. The lent buffer is as it was.
     Refused(Refusal),
 }
@@ -67,7 +67,10 @@ fn answer(root: Progress, out: &mut [u8]) -> TypeAnswer
             let room = copy_out(written, len, out);
             match room {
                 Room::Short(needed) => TypeAnswer::Refused(Refusal::NoRoom(needed)),
-                Room::Fits => TypeAnswer::Typed(result),
+                Room::Fits => TypeAnswer::Typed {
+                    code: result,
+                    len: len,
+                },
             }
         }
     }

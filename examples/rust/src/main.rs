@@ -1,37 +1,143 @@
-//! Resolves some calls and types an expression through the safe wrapper. From this folder, after
-//! `rt staticlib bindings` at the repository's root: `cargo run --release`.
+//! Asks the library questions of each kind by way of the safe functions, and prints the answers. examples/c prints the
+//! same lines from C; examples/run builds both, runs them and compares.
 
+use azwukran::{number, Chosen, List, Refusal, Regular, Rule, Run, ENOUGH_MASK, NONE};
+
+// Functions and types by number.
 const CLAMP: u8 = 4;
 const SIN: u8 = 5;
+const POW: u8 = 32;
+const DISTANCE: u8 = 66;
 const MIX: u8 = 72;
+const TRANSPOSE: u8 = 74;
+const ABSTRACT_INT: u8 = 0;
+const ABSTRACT_FLOAT: u8 = 1;
 const U32: u8 = 5;
 const F32: u8 = 8;
+const F16: u8 = 9;
+const VEC2_F32: u8 = 20;
+
+/// The bytes of a worksheet's line.
+const LINE: usize = 4;
+
+/// What stands in lent bytes before they are written.
+const FILL: u8 = 165;
 
 fn main() {
-    for (name, function, operands) in
-        [("Clamp", CLAMP, &[0, U32, 0][..]), ("Sin", SIN, &[U32]), ("Mix", MIX, &[F32, F32, F32])]
-    {
-        match azwukran::call(function, operands, false) {
-            Ok(call) => {
-                let survivors = azwukran::survivors(function, operands, false).unwrap_or_default();
-                println!("{name}{operands:?}: rule {} of {survivors:?}, type {}", call.index, call.result);
-            }
-            Err(refusal) => println!("{name}{operands:?}: {refusal}"),
-        }
+    show_call("Clamp", CLAMP, &[ABSTRACT_INT, U32, ABSTRACT_INT], false);
+    show_call("Sin", SIN, &[ABSTRACT_INT], false);
+    show_call("Sin", SIN, &[ABSTRACT_INT], true);
+    show_call("Mix", MIX, &[F32, F32, F32], false);
+    show_call("Pow", POW, &[F32, F16], false);
+    show_rule("Transpose", TRANSPOSE, 4);
+    show_rule("Transpose", TRANSPOSE, 36);
+    show_consensus(NONE, &[ABSTRACT_INT, F32, ABSTRACT_FLOAT]);
+    show_consensus(NONE, &[ABSTRACT_INT, U32, ABSTRACT_FLOAT]);
+    show_expression(&[1, CLAMP, 3, 0, ABSTRACT_INT, 0, U32, 0, ABSTRACT_INT]);
+    show_expression(&[1, POW, 2, 1, DISTANCE, 2, 0, ABSTRACT_FLOAT, 0, ABSTRACT_FLOAT, 0, F16]);
+    // Pow's rules: two arguments of one type, scalar or vector, of a float.
+    show_regular(Regular { arity: 2, constructors: 0b1111, scalars: 0b111_0000_0010, conclusion: 0 });
+    show_list("Mix", MIX);
+}
+
+/// Prints an answer behind its question, or the refusal.
+fn show(question: &str, answer: Result<String, Refusal>) {
+    match answer {
+        Ok(answer) => println!("{question}: {answer}"),
+        Err(Refusal { number, place }) => println!("{question}: refusal {number} at {place}"),
     }
-    println!("Mix has {} rules", azwukran::listing(MIX).len());
-    match azwukran::consensus(None, &[0, U32, 1]) {
-        Ok(scalar) => println!("consensus: {scalar}"),
-        Err(refusal) => println!("consensus: {refusal}"),
-    }
-    match azwukran::type_expression(&[1, CLAMP, 3, 0, 0, 0, U32, 0, 0], false) {
+}
+
+/// Numbers with spaces between them.
+fn listed<T: ToString>(numbers: &[T]) -> String {
+    numbers.iter().map(T::to_string).collect::<Vec<_>>().join(" ")
+}
+
+fn rule_text(rule: &Rule) -> String {
+    format!("{} -> {}", listed(&rule.arguments), rule.result)
+}
+
+/// A call and the rules that survive it.
+fn show_call(name: &str, function: u8, operands: &[u8], concrete_only: bool) {
+    let answer = || {
+        let Chosen { index, rule } = azwukran::call(function, operands, concrete_only).unpack()?;
+        let mut mask = [0; ENOUGH_MASK];
+        azwukran::survivors(function, operands, concrete_only, &mut mask).unpack()?;
+        Ok(format!("rule {index}, {}; survivors {}", rule_text(&rule), listed(&azwukran::members(&mask))))
+    };
+    let switch = if concrete_only { ", concrete only" } else { "" };
+    show(&format!("{name} of {}{switch}", listed(operands)), answer());
+}
+
+fn show_rule(name: &str, function: u8, index: u8) {
+    let answer = azwukran::rule(function, index).unpack();
+    show(&format!("rule {index} of {name}"), answer.map(|rule| rule_text(&rule)));
+}
+
+fn show_consensus(base: u8, components: &[u8]) {
+    let answer = azwukran::consensus(base, components).unpack();
+    show(&format!("consensus of {}, base {base}", listed(components)), answer.map(|scalar| format!("scalar {scalar}")));
+}
+
+/// An expression's type, its worksheet, and how that runs, whole and without its first line.
+fn show_expression(bytes: &[u8]) {
+    let question = format!("expression {}", listed(bytes));
+    match azwukran::worksheet(bytes, false) {
         Ok((type_code, sheet)) => {
-            println!("expression: type {type_code}");
-            for line in sheet.chunks(4) {
-                println!("  {line:?}");
+            show(&question, Ok(format!("type {type_code}, worksheet of {} bytes", sheet.len())));
+            for line in sheet.chunks(LINE) {
+                println!("  {}", listed(line));
             }
-            println!("machine: {:?}", azwukran::run(&sheet));
+            show_run("machine", &sheet);
+            show_run("machine, without the first line", &sheet[LINE..]);
         }
-        Err(refusal) => println!("expression: {refusal}"),
+        Err(refusal) => show(&question, Err(refusal)),
     }
+}
+
+fn show_run(question: &str, sheet: &[u8]) {
+    match azwukran::run(sheet).unpack() {
+        Run::Ended { operands, top } => println!("{question}: ended, operands {operands}, top {}", top.unwrap_or(NONE)),
+        Run::Stopped { line } => println!("{question}: stopped at line {line}"),
+    }
+}
+
+/// A Regular set, what two steps leave of it, and its rules.
+fn show_regular(set: Regular) {
+    show("Regular set", Ok(regular_text(set)));
+    show("  preferred", set.preferred().unpack().map(|rule| rule_text(&rule)));
+    show("  rule 5", set.rule(5).unpack().map(|rule| rule_text(&rule)));
+    show("  concrete only", set.concrete_only().unpack().map(regular_text));
+    let left = set.arg(0, VEC2_F32).unpack();
+    show("  argument 0 of type 20", left.map(regular_text));
+    if let Ok(left) = left {
+        show("  preferred then", left.preferred().unpack().map(|rule| rule_text(&rule)));
+    }
+}
+
+fn regular_text(set: Regular) -> String {
+    let Regular { arity, constructors, scalars, conclusion } = set;
+    format!("arity {arity}, constructors {constructors}, scalars {scalars}, conclusion {conclusion}")
+}
+
+/// The rules of a function as a List, and what an argument and the concrete-only step leave of it. A step lends eight
+/// bytes for its mask; those behind it keep what they held.
+fn show_list(name: &str, function: u8) {
+    let rules: Vec<u8> = (0..=u8::MAX)
+        .map(|index| azwukran::rule(function, index))
+        .take_while(|answer| answer.number == number::ACCEPTED)
+        .flat_map(|answer| answer.bytes())
+        .collect();
+    // All of its 32 rules.
+    let members = [0xff; 4];
+    let list = List { rules: &rules, members: &members };
+    show("List", Ok(format!("{name}, {} bytes of rules", rules.len())));
+    show("  argument 0 of type 20, no room", list.arg(0, VEC2_F32, &mut []).unpack().map(|()| String::new()));
+    let mut lent = [FILL; ENOUGH_MASK];
+    show("  argument 0 of type 20", list.arg(0, VEC2_F32, &mut lent).unpack().map(|()| listed(&lent)));
+    let left = List { rules: &rules, members: &lent };
+    let preferred = left.preferred().unpack();
+    show("  preferred then", preferred.map(|chosen| format!("rule {}, {}", chosen.index, rule_text(&chosen.rule))));
+    let mut lent = [FILL; ENOUGH_MASK];
+    show("  concrete only", list.concrete_only(&mut lent).unpack().map(|()| listed(&lent)));
 }

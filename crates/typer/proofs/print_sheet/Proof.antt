@@ -1,71 +1,17 @@
--- `print_sheet` is safe and ends: the place is below the length, and moves on. Assumes nothing.
-use Prim.Native.Nat.{_-_}
-use native.Mathlib.Omega.{arith}
-use lib.ListN.{length}
+-- `print_sheet` is safe: the front of the buffer has the length asked for. Assumes nothing.
+use borrow.Author.Needs.{needs}
+use lib.Seq.{length-take-le}
 use Rattle.typer.proofs.print_sheet.Statement.{statement}
 use Rattle.typer.proofs.print_sheet.Tie as tie
 
-abbrev Inv-loop : tie.InvT-loop
-Inv-loop sheet at₀ at = Unit {0}
+slice-aggregate-print-lines : tie.Need-slice-aggregate-print-lines
+slice-aggregate-print-lines c = search (needs, length-take-le)
 
-abbrev μ-loop : tie.MeasureT-loop
-μ-loop sheet at₀ at = length sheet - at
+print-lines-requires : tie.Need-print-lines-requires
+print-lines-requires c κs = search needs
 
-loop-holds : tie.Need-loop-holds Inv-loop μ-loop
-loop-holds c = tt
-
-shared-slice-read-if1 : tie.Need-shared-slice-read-if1 Inv-loop μ-loop
-shared-slice-read-if1 c = omega arith
-
-returns : tie.Need-returns Inv-loop μ-loop
-returns c = tt
-
-sub-print-line : tie.Need-sub-print-line Inv-loop μ-loop
-sub-print-line c = omega arith
-
-part-print-line-start : tie.Need-part-print-line-start Inv-loop μ-loop
-part-print-line-start c = omega arith
-
-part-print-line-end : tie.Need-part-print-line-end Inv-loop μ-loop
-part-print-line-end c = omega arith
-
-print-line-requires : tie.Need-print-line-requires Inv-loop μ-loop
-print-line-requires c κs = tt
-
-sub-if2 : tie.Need-sub-if2 Inv-loop μ-loop
-sub-if2 c = omega arith
-
-returns-2 : tie.Need-returns-2 Inv-loop μ-loop
-returns-2 c = tt
-
-add-at : tie.Need-add-at Inv-loop μ-loop
-add-at c = omega arith
-
-loop-less : tie.Need-loop-less Inv-loop μ-loop
-loop-less c = omega arith
-
-loop-again : tie.Need-loop-again Inv-loop μ-loop
-loop-again c = tt
-
-returns-3 : tie.Need-returns-3 Inv-loop μ-loop
-returns-3 c = tt
+returns : tie.Need-returns
+returns c = search needs
 
 pub print-sheet-spec : {M : Type 1} → statement M
-print-sheet-spec =
-    tie.close
-    (tie.spec
-    Inv-loop
-    μ-loop
-    loop-holds
-    shared-slice-read-if1
-    returns
-    sub-print-line
-    part-print-line-start
-    part-print-line-end
-    print-line-requires
-    sub-if2
-    returns-2
-    add-at
-    loop-less
-    loop-again
-    returns-3)
+print-sheet-spec = tie.close (tie.spec slice-aggregate-print-lines print-lines-requires returns)

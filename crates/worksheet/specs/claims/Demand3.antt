@@ -17,7 +17,7 @@ use mathlib.Core.List.{List, [], _∷_}
 use Prim.Native.Nat.{ℕ, _*_, _≤_}
 use lib.ListN.{length}
 use Rattle.rules.specs.Signature.{Signature}
-use Rattle.overloads.specs.claims.Taking.{OneLength}
+use Rattle.calls.specs.claims.Taking.{OneLength}
 use Rattle.expressions.specs.Tree.{Tree}
 use Rattle.expressions.specs.claims.Limits.{WellFormed}
 use Rattle.machine.specs.Line.{Line, encode}

@@ -1,12 +1,12 @@
--- 'Answers by number', 5, 6 and 1 in an expression: which call is at fault, what is wrong there, as `overloads` says it of a single call
+-- 'Answers by number', 5, 6 and 1 in an expression: which call is at fault, what is wrong there, as `calls` says it of a single call
 -- in its `specs/claims/Taking.antt`, and the place.
 use mathlib.Core.Bool.{Bool}
 use mathlib.Core.List.{List}
 use Prim.Native.Nat.{ℕ}
 use lib.ListN.{getD}
 use Rattle.rules.specs.Signature.{Signature}
-use Rattle.overloads.specs.Choice.{wrongCount, noneAfter, noneConcrete}
-use Rattle.overloads.specs.claims.Taking.{Says}
+use Rattle.calls.specs.Choice.{wrongCount, noneAfter, noneConcrete}
+use Rattle.calls.specs.claims.Taking.{Says}
 use Rattle.expressions.specs.Tree.{Tree, Trees, call, more}
 use Rattle.worksheet.specs.Places.{inside, behind, starts}
 use Rattle.machine.specs.Line.{Line}

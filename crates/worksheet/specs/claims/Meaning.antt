@@ -1,12 +1,12 @@
 -- What demand 3 speaks of, said without the steps that find it out. An expression's own leaves and calls, and those of a worksheet
 -- (`order`, `ownOf`). An expression gives a type and lines (`Gives`) when each call in it has a rule that takes its operands, and goes by
 -- the first one. It is stuck (`Stuck`) when some call in it, whose arguments all give types, has no rule for their number and types.
--- Which rules take operands, and which of them is the first, `overloads` says in its `specs/claims/Taking.antt`.
+-- Which rules take operands, and which of them is the first, `calls` says in its `specs/claims/Taking.antt`.
 use mathlib.Core.Bool.{Bool}
 use mathlib.Core.List.{List, [], _∷_, _++_}
 use Prim.Native.Nat.{ℕ}
 use Rattle.rules.specs.Signature.{Signature}
-use Rattle.overloads.specs.claims.Taking.{NoRule, Best}
+use Rattle.calls.specs.claims.Taking.{NoRule, Best}
 use Rattle.expressions.specs.Tree.{Leaf, Tree, Trees, leaf, call, none, more, count}
 use Rattle.machine.specs.Line.{Line, leafLine, conversionLine, callLine, callLines}
 

@@ -5,11 +5,11 @@ use mathlib.Core.List.{List, [], _∷_, map}
 use Prim.Native.Nat.{ℕ}
 use lib.ListN.{replicate}
 use Rattle.scalars.specs.Paper.{Paper, number, place, value}
-use Rattle.domain.specs.Conversion.{consensusOf}
-use Rattle.domain.specs.declared.conversion.Base.{Base}
-use Rattle.domain.specs.declared.conversion.Base.the-variants as base
+use Rattle.types.specs.Conversion.{consensusOf}
+use Rattle.types.specs.declared.conversion.Base.{Base}
+use Rattle.types.specs.declared.conversion.Base.the-variants as base
 use Rattle.functions.specs.Functions.{functionCount, listingOf}
-use Rattle.overloads.specs.Call.{callOf, survivorsOfCall}
+use Rattle.calls.specs.Call.{callOf, survivorsOfCall}
 use Rattle.worksheet.specs.claims.Room.{enoughBytes}
 use Rattle.worksheet.specs.Typing.{typing, answerOf}
 

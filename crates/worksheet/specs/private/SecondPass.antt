@@ -11,7 +11,7 @@ use Rattle.scalars.specs.Paper as paper
 use Rattle.scalars.specs.Paper.{Paper}
 use Rattle.scalars.specs.Domain.{firstUnknown}
 use Rattle.rules.specs.Rule.{argumentsOf}
-use Rattle.overloads.specs.Choice.{resolve}
+use Rattle.calls.specs.Choice.{resolve}
 use Rattle.functions.specs.Functions.{functionCount, listingOf}
 use Rattle.rules.specs.declared.rule.Rule.{Rule}
 use Rattle.worksheet.specs.declared.sheet.Sheet.{Sheet}
@@ -28,6 +28,7 @@ use Rattle.machine.specs.Machine.{mostOperands}
 use Rattle.worksheet.specs.claims.Room.{enoughBytes}
 use Rattle.worksheet.specs.Places.{behind, starts}
 use Rattle.worksheet.specs.Typer.{Typed, typed, refused, conclude, typeOf, typeAll}
+use Rattle.worksheet.specs.Typing.{noType}
 use Rattle.worksheet.specs.private.Sheet.{Wrote, written, roomFor, placed}
 use Rattle.worksheet.specs.private.Stack.{typesOn, startsOn, Counted, Pushed}
 
@@ -127,13 +128,14 @@ ArgsTyped b at left switch s h r =
 abbrev pub SheetFits : Progress → Type 0
 SheetFits r = r .verdict ≡ Clean → r .sheet .len ≤ enoughBytes
 
-abbrev pub roomAnswer : ℕ → Room → Paper
-roomAnswer t Fits = paper.accepted (t ∷ [])
-roomAnswer t (Short needed) = paper.refusal 10 needed (255 ∷ [])
+abbrev pub roomAnswer : ℕ → ℕ → Room → Paper
+roomAnswer t n Fits = paper.accepted (t ∷ n ∷ [])
+roomAnswer t n (Short needed) = paper.refusal 10 needed noType
 
 abbrev pub rootAnswer : Progress → ℕ → Paper
 rootAnswer r have =
-    paper.whenAccepted (foundPaper (r .verdict)) (λ _. roomAnswer (getD (r .stack .types) 0 0) (roomFor (r .sheet .len) have)) (255 ∷ [])
+    paper.whenAccepted (foundPaper (r .verdict))
+    (λ _. roomAnswer (getD (r .stack .types) 0 0) (r .sheet .len) (roomFor (r .sheet .len) have)) noType
 
 abbrev pub bufferBy : Paper → List ℕ → List ℕ → List ℕ
 bufferBy (paper.accepted vs) bs buffer = placed bs buffer

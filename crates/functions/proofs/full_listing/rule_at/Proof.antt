@@ -1,7 +1,7 @@
 -- `rule_at` meets its contract: a case for each kind of set that a function has. Assumes nothing.
 use mathlib.Core.Path.{sym, _∙_}
 use native.Mathlib.Omega.{arith}
-use Rattle.listed.specs.ListedRules.{listedRules}
+use Rattle.functions.specs.ListedRules.{listedRules}
 use Rattle.functions.proofs.Indices.{rule-here, rule-past}
 use Rattle.functions.proofs.Database.{regular-built, rule-of-set}
 use Rattle.functions.proofs.FunctionPapers.{set-told}

@@ -3,7 +3,7 @@ use mathlib.Core.Path.{refl, sym, _∙_}
 use native.Mathlib.Omega.{arith}
 use Rattle.functions.specs.Functions.{functionSets}
 use Rattle.functions.proofs.Database.{sets-from}
-use Rattle.listed.proofs.Runs.{none-of}
+use Rattle.functions.proofs.Runs.{none-of}
 use borrow.Author.Needs.{needs}
 use Rattle.functions.proofs.mathfunction.one_off.Statement.{statement}
 use Rattle.functions.proofs.mathfunction.one_off.Tie as tie

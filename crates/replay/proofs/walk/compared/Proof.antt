@@ -32,20 +32,17 @@ broken-requires-2 c κs = tt
 returns-2 : tie.Need-returns-2 Inv-loop μ-loop
 returns-2 c = tt
 
-sub-agrees : tie.Need-sub-agrees Inv-loop μ-loop
-sub-agrees c = omega arith
+sub-counted : tie.Need-sub-counted Inv-loop μ-loop
+sub-counted c = omega arith
 
-part-agrees-start : tie.Need-part-agrees-start Inv-loop μ-loop
-part-agrees-start c = omega arith
+part-counted-start : tie.Need-part-counted-start Inv-loop μ-loop
+part-counted-start c = omega arith
 
-part-agrees-end : tie.Need-part-agrees-end Inv-loop μ-loop
-part-agrees-end c = omega arith
+part-counted-end : tie.Need-part-counted-end Inv-loop μ-loop
+part-counted-end c = omega arith
 
-agrees-requires : tie.Need-agrees-requires Inv-loop μ-loop
-agrees-requires c κs = tt
-
-with-requires : tie.Need-with-requires Inv-loop μ-loop
-with-requires c κs = tt
+counted-requires : tie.Need-counted-requires Inv-loop μ-loop
+counted-requires c κs = tt
 
 loop-less : tie.Need-loop-less Inv-loop μ-loop
 loop-less c = omega arith
@@ -69,11 +66,10 @@ compared-spec =
     span-at-requires
     broken-requires-2
     returns-2
-    sub-agrees
-    part-agrees-start
-    part-agrees-end
-    agrees-requires
-    with-requires
+    sub-counted
+    part-counted-start
+    part-counted-end
+    counted-requires
     loop-less
     loop-again
     returns-3)

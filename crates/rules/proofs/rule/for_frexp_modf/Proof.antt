@@ -2,7 +2,7 @@
 -- Assumes nothing.
 use mathlib.Core.Path.{sym, ap, _∙_}
 use Rattle.rules.specs.Rule.{predeclaredOf}
-use Rattle.domain.specs.TypePaper.{constructorPaper}
+use Rattle.types.specs.TypePaper.{constructorPaper}
 use borrow.Author.Needs.{needs}
 use Rattle.rules.proofs.rule.for_frexp_modf.Statement.{statement}
 use Rattle.rules.proofs.rule.for_frexp_modf.Tie as tie

@@ -9,7 +9,7 @@ use Rattle.rules.specs.Rule.{ruleOf}
 use Rattle.rules.specs.RulePaper.{ruleValues}
 use Rattle.rules.proofs.Records.{uniform}
 use Rattle.rules.specs.declared.rule.Rule.{Rule}
-use Rattle.domain.specs.TypePaper.{codePaper}
+use Rattle.types.specs.TypePaper.{codePaper}
 use borrow.Author.Needs.{needs}
 use Rattle.regular.proofs.regular.Regular.rule.Statement.{statement}
 use Rattle.regular.proofs.regular.Regular.rule.Tie as tie

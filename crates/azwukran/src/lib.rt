@@ -1,0 +1,24 @@
+// Overload resolution, consensus and worksheets for C and Rust: each answer is a struct of plain numbers, with its number and its place.
+//
+// Every exported function ends on every input and tests it itself. It asks the function of the crates below that its promise names, and
+// puts the answer's number, place and values into the struct; a mask goes into bytes that the caller lends. Nothing is kept between calls.
+
+mod lent;
+mod list_sets;
+mod regular_sets;
+mod single_calls;
+mod worksheets;
+
+pub use list_sets::azwukran_list_arg;
+pub use list_sets::azwukran_list_concrete_only;
+pub use list_sets::azwukran_list_preferred;
+pub use regular_sets::azwukran_regular_arg;
+pub use regular_sets::azwukran_regular_concrete_only;
+pub use regular_sets::azwukran_regular_preferred;
+pub use regular_sets::azwukran_regular_rule;
+pub use single_calls::azwukran_call;
+pub use single_calls::azwukran_consensus;
+pub use single_calls::azwukran_rule;
+pub use single_calls::azwukran_survivors;
+pub use worksheets::azwukran_run;
+pub use worksheets::azwukran_type;

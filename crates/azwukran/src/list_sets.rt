@@ -1,0 +1,58 @@
+// Lists made by hand: a question hands the rules in as bytes, six a rule (four arguments, their count, the result), and the members as a
+// mask in bytes. A step writes the mask of those that are left into lent bytes, so a caller hands it in again for the next step.
+
+ghost use mathlib.Core.Path.{_≡_};
+ghost use Rattle.rules.specs.declared.rule.Keep.the-variants as keep;
+ghost use Rattle.lists.specs.ChosenPaper.{noChoice};
+ghost use Rattle.lists.specs.List.{noListValues, listArg, listStep, listPreferred};
+ghost use Rattle.c_sets.specs.Sets.{rulesHanded, ofList};
+ghost use Rattle.c_answers.specs.Answers.{chosenForC, maskForC};
+ghost use Rattle.azwukran.specs.Lent.{membersLeft, inRoom, lentBy};
+use crate::lent::lend_members;
+use c_answers::ChosenForC;
+use c_answers::MaskForC;
+use c_answers::chosen_for_c;
+use c_sets::list_arg;
+use c_sets::list_concrete_only;
+use c_sets::list_preferred;
+
+// The bytes of a rule.
+const RULE_BYTES: usize = 6;
+
+// The members that an argument of a type leaves, as a mask in front of the lent bytes.
+#[no_mangle]
+pub extern "C" fn azwukran_list_arg(
+    rules: &[u8],
+    members: &[u8],
+    index: usize,
+    code: u8,
+    out: &mut [u8],
+) -> MaskForC
+    ensures answer { λ r. ⌜ r ≡ maskForC (inRoom (rulesHanded (now (rules .entry))) (now (out .entry)) (membersLeft (ofList (now (rules .entry)) (now (members .entry)) (listArg index code) noListValues))) ⌝ }
+    ensures lent { λ _. ⌜ now (out .exit) ≡ lentBy (rulesHanded (now (rules .entry))) (membersLeft (ofList (now (rules .entry)) (now (members .entry)) (listArg index code) noListValues)) (now (out .entry)) ⌝ }
+{
+    let left = list_arg(rules, members, index, code);
+    lend_members(left, rules.len() / RULE_BYTES, out)
+}
+
+// The members without an abstract argument, as a mask in front of the lent bytes.
+#[no_mangle]
+pub extern "C" fn azwukran_list_concrete_only(
+    rules: &[u8],
+    members: &[u8],
+    out: &mut [u8],
+) -> MaskForC
+    ensures answer { λ r. ⌜ r ≡ maskForC (inRoom (rulesHanded (now (rules .entry))) (now (out .entry)) (membersLeft (ofList (now (rules .entry)) (now (members .entry)) (listStep keep.Concrete) noListValues))) ⌝ }
+    ensures lent { λ _. ⌜ now (out .exit) ≡ lentBy (rulesHanded (now (rules .entry))) (membersLeft (ofList (now (rules .entry)) (now (members .entry)) (listStep keep.Concrete) noListValues)) (now (out .entry)) ⌝ }
+{
+    let left = list_concrete_only(rules, members);
+    lend_members(left, rules.len() / RULE_BYTES, out)
+}
+
+// The first member, with its index among the rules.
+#[no_mangle]
+pub extern "C" fn azwukran_list_preferred(rules: &[u8], members: &[u8]) -> ChosenForC
+    ensures { λ r. ⌜ r ≡ chosenForC (ofList (now (rules .entry)) (now (members .entry)) listPreferred noChoice) ⌝ }
+{
+    chosen_for_c(list_preferred(rules, members))
+}

@@ -1,0 +1,89 @@
+-- A call of a Regular set, turn by turn: its arity is the number of operands, each operand narrows the masks, and the first rule that
+-- is left is the chosen one. Assumes nothing.
+use mathlib.Core.Path.{_≡_, refl, sym, ap, _∙_}
+use mathlib.Core.Bool.{Bool, true, false}
+use mathlib.Core.List.{List, map}
+use Prim.Native.Nat.{ℕ, _+_, _≤_, _<_, zero-le}
+use native.Mathlib.Omega.{arith}
+use lib.ListN.{length, getD, drop}
+use Rattle.scalars.specs.Mask.{bits}
+use Rattle.lists.specs.Entry.{Entry, number}
+use Rattle.calls.specs.Choice.{Narrowed, left, emptied, narrow, wrongCount, afterOperands, resolve}
+use Rattle.rules.specs.Verdict.{longest}
+use Rattle.regular.specs.Regular.{signatureFor, regularRules, emptySet?, narrowed, concreteSet}
+use Rattle.regular.specs.private.Tested.{Known}
+use Rattle.calls.specs.Call.{answered}
+use Rattle.calls.specs.private.CallSets.{Callable, preferredIn}
+use Rattle.scalars.specs.Paper.{refusal}
+use Rattle.lists.specs.ChosenPaper.{noChoice}
+use Rattle.regular.specs.declared.regular.Regular.{Regular}
+use Rattle.regular.proofs.Regulars.{codes-first, longest-arity, lowestCode}
+use Rattle.regular.proofs.RegularSteps.{narrowed-known, concrete-known}
+use Rattle.calls.proofs.Resolving.{narrow-out, narrow-on, narrow-end, count-wrong, count-right}
+use Rattle.calls.proofs.RegularResolving.{Holds, holds-all, holds-argument, holds-concrete, holds-preferred, holds-none, holds-some}
+
+-- i operands are done: the masks hold what is left, and the steps to come are the rest of all steps
+abbrev pub Reached : Regular → List ℕ → Regular → ℕ → Type 0
+Reached set ts rest i =
+    (i ≤ length ts) × Known rest × (s : List Entry) × Holds set rest s × (narrow (drop i ts) i s ≡ narrow ts 0 (number 0 (regularRules set)))
+
+module _ (set : Regular) (callable : Callable set) (ts : List ℕ) where
+  pub rules-longest : longest (regularRules set) ≡ set .arity
+  unfolding regularRules
+  rules-longest =
+      let f = codes-first set (callable .known) (callable .some) in
+      ap (λ (xs : List ℕ). longest (map (signatureFor set) xs)) (f .1) ∙ longest-arity set (lowestCode set) (f .0)
+
+  pub regular-wrong : (switch : Bool) → (length ts ≡ set .arity → ⊥) → refusal 5 0 noChoice ≡ answered (resolve switch (regularRules set) ts)
+  unfolding resolve
+  regular-wrong switch h = sym (ap answered (count-wrong (regularRules set) ts wrongCount _ (λ e. h (e ∙ rules-longest))))
+
+  pub reached-start : Reached set ts set 0
+  reached-start = (zero-le, callable .known, number 0 (regularRules set), holds-all set, refl)
+
+  module _ (counted : length ts ≡ set .arity) where
+    -- what the steps leave is what the call answers
+    regular-right : (switch : Bool) (y : Narrowed) → narrow ts 0 (number 0 (regularRules set)) ≡ y
+        → answered (afterOperands switch y) ≡ answered (resolve switch (regularRules set) ts)
+    unfolding resolve
+    regular-right switch y e =
+        ap (λ (x : Narrowed). answered (afterOperands switch x)) (sym e)
+        ∙ sym (ap answered (count-right (regularRules set) ts wrongCount _ (counted ∙ sym rules-longest)))
+
+    module _ (rest : Regular) (i : ℕ) (reached : Reached set ts rest i) where
+      -- the operand leaves none
+      pub reached-out : (switch : Bool) → i < length ts → emptySet? (narrowed (getD ts i 0) rest) ≡ true
+          → answered (afterOperands switch (emptied i)) ≡ answered (resolve switch (regularRules set) ts)
+      reached-out switch h e =
+          let b : i < set .arity = omega arith in
+          regular-right switch (emptied i)
+          (sym (reached .4)
+          ∙ narrow-out ts i (reached .2) h (holds-none set (narrowed (getD ts i 0) rest) _ (holds-argument i (getD ts i 0) set rest (reached .2) b (reached .3)) e))
+
+      -- it leaves some
+      pub reached-on : i < length ts → emptySet? (narrowed (getD ts i 0) rest) ≡ false → Reached set ts (narrowed (getD ts i 0) rest) (i + 1)
+      reached-on h e =
+          let b : i < set .arity = omega arith in
+          let k = narrowed-known (getD ts i 0) rest (reached .1) in
+          let n = holds-argument i (getD ts i 0) set rest (reached .2) b (reached .3) in
+          (omega arith, k, _, n, sym (narrow-on ts i (reached .2) h (holds-some set (narrowed (getD ts i 0) rest) _ n k e)) ∙ reached .4)
+
+      module _ (done : length ts ≤ i) where
+        end : narrow ts 0 (number 0 (regularRules set)) ≡ left (reached .2)
+        end = sym (reached .4) ∙ narrow-end ts i (reached .2) done
+
+        -- the first of what is left; with the switch on, of what is concrete
+        pub reached-end : (switch : Bool) → switch ≡ false
+            → preferredIn set (bits 13 (rest .constructors .0)) (bits 12 (rest .scalars .0)) ≡ answered (resolve switch (regularRules set) ts)
+        reached-end switch off =
+            holds-preferred set rest (reached .2) (reached .3) callable ∙ regular-right false _ end
+            ∙ ap (λ (b : Bool). answered (resolve b (regularRules set) ts)) (sym off)
+
+        pub reached-concrete : (switch : Bool) → switch ≡ true
+            → preferredIn set (bits 13 (concreteSet rest .constructors .0)) (bits 12 (concreteSet rest .scalars .0)) ≡ answered (resolve switch (regularRules set) ts)
+        reached-concrete switch on =
+            holds-preferred set (concreteSet rest) _ (holds-concrete set rest (reached .2) (callable .arguments) (reached .3)) callable ∙ regular-right true _ end
+            ∙ ap (λ (b : Bool). answered (resolve b (regularRules set) ts)) (sym on)
+
+        pub concrete-left : Known (concreteSet rest)
+        concrete-left = concrete-known rest (reached .1)

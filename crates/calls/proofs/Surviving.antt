@@ -1,0 +1,129 @@
+-- The survivors of a call, as a mask of indices: they are the entries of the listing that take every operand and pass the switch, in
+-- order, and the chosen rule is the first of them. A call and its survivors are refused alike. Assumes nothing.
+use mathlib.Core.Path.{_≡_, refl, sym, ap, _∙_, subst}
+use mathlib.Core.Logic.{_↔_}
+use mathlib.Core.Bool.{Bool, true, false}
+use mathlib.Core.List.{List, [], _∷_, map}
+use mathlib.Core.Option.{some}
+use Prim.Native.Nat.{ℕ, zero, suc, _-_, _/_, _^_, _<_}
+use native.Mathlib.Omega.{arith}
+use lib.Dec.{eqb, ltb}
+use lib.ListN.{length, getElem?}
+use lib.Seq.{take-all}
+use Rattle.scalars.specs.Mask.{choose, both, either, odd, select, sift, maskOf}
+use Rattle.rules.specs.Signature.{Signature}
+use Rattle.lists.specs.Entry.{Entry, number, keep}
+use Rattle.calls.specs.Choice.{Narrowed, left, emptied, narrow, wrongCount, first, concreteStep, afterOperands, resolve}
+use Rattle.rules.specs.Verdict.{longest}
+use Rattle.calls.specs.claims.Taking.{bit}
+use Rattle.calls.specs.Call.{answered, membersOf, survivorsAfter, survivorsOf}
+use Rattle.scalars.specs.Paper.{accepted, refusal}
+use Rattle.lists.specs.ChosenPaper.{noChoice}
+use Rattle.scalars.proofs.Masks.{sift-lt}
+use Rattle.scalars.proofs.Meets.{ones-half, ones-odd, select-ones}
+use Rattle.scalars.proofs.Sifts.{high, odd-low}
+use Rattle.lists.proofs.Entries.{number-length, select-keep}
+use Rattle.calls.proofs.Firsts.{keep-keep}
+use Rattle.calls.proofs.Narrowing.{takesFrom, permits, passesAll, Narrows, narrow-narrows, Some}
+use Rattle.calls.proofs.Choices.{concrete-keeps}
+use Rattle.calls.proofs.ListResolving.{mask-entries}
+
+-- ---- the bits of a mask that picks what passes a test
+
+bit-sift : (p : Signature → Bool) (rs : List Signature) (i : ℕ) (r : Signature) → getElem? rs i ≡ some r → (m : ℕ) → bit i (sift p rs m) ≡ both (bit i m) (p r)
+unfolding sift
+bit-sift p [] i r e m = let z : _≡_ {A = ℕ} 0 1 = cc in absurd (omega arith)
+bit-sift p (x ∷ rs) zero r e m =
+    let f : x ≡ r = cc in
+    odd-low (sift p rs (m / 2)) (both (odd m) (p x)) ∙ ap (λ (s : Signature). both (odd m) (p s)) f
+bit-sift p (x ∷ rs) (suc i) r e m = ap (bit i) (high (sift p rs (m / 2)) (both (odd m) (p x))) ∙ bit-sift p rs i r e (m / 2)
+
+bit-ones : (rs : List Signature) (i : ℕ) (r : Signature) → getElem? rs i ≡ some r → bit i (2 ^ length rs - 1) ≡ true
+bit-ones [] i r e = let z : _≡_ {A = ℕ} 0 1 = cc in absurd (omega arith)
+bit-ones (x ∷ rs) zero r e = ap (λ (n : ℕ). eqb n 1) (ones-odd (length rs))
+bit-ones (x ∷ rs) (suc i) r e = ap (bit i) (ones-half (length rs)) ∙ bit-ones rs i r e
+
+bit-mask : (p : Signature → Bool) (rs : List Signature) (i : ℕ) (r : Signature) → getElem? rs i ≡ some r → bit i (sift p rs (2 ^ length rs - 1)) ≡ p r
+bit-mask p rs i r e = bit-sift p rs i r e (2 ^ length rs - 1) ∙ ap (λ (b : Bool). both b (p r)) (bit-ones rs i r e)
+
+module _ (switch : Bool) (rules : List Signature) (ts : List ℕ) where
+  -- the entries that take every operand and pass the switch
+  abbrev pub surviving : List Entry
+  surviving = keep (passesAll switch ts) (number 0 rules)
+
+  -- a mask that picks them, and the choice among them
+  pub record Surviving (m : ℕ) : Type 0 where
+    pub within : m < 2 ^ length rules
+    pub bits : (i : ℕ) (r : Signature) → getElem? rules i ≡ some r → bit i m ≡ passesAll switch ts r
+    pub members : select (number 0 rules) m ≡ surviving
+    pub some : Some surviving
+    pub choice : resolve switch rules ts ≡ first surviving
+
+  -- the mask of those that pass
+  abbrev mask : ℕ
+  mask = sift (passesAll switch ts) rules (2 ^ length rules - 1)
+
+  mask-picks : select (number 0 rules) mask ≡ surviving
+  mask-picks =
+      let n = number-length 0 rules in
+      select-keep (passesAll switch ts) 0 rules (2 ^ length rules - 1)
+      ∙ ap (keep (passesAll switch ts)) (select-ones (number 0 rules) (length rules) (omega arith) ∙ take-all (length rules) (number 0 rules) (omega arith))
+
+  mask-is : maskOf (map (λ (x : Entry). x .index) surviving) ≡ mask
+  mask-is =
+      ap (λ (s : List Entry). maskOf (map (λ (x : Entry). x .index) s)) (sym mask-picks)
+      ∙ mask-entries rules mask (sift-lt (passesAll switch ts) rules (2 ^ length rules - 1) refl)
+
+  left-is : (s : List Entry) → s ≡ keep (takesFrom 0 ts) (number 0 rules) → concreteStep switch s ≡ surviving
+  left-is s e =
+      ap (concreteStep switch) e ∙ concrete-keeps switch (keep (takesFrom 0 ts) (number 0 rules)) ∙ keep-keep (takesFrom 0 ts) (permits switch) (number 0 rules)
+
+  members-is : (s : List Entry) (m : ℕ) → membersOf s ≡ accepted (m ∷ []) → Some s × (m ≡ maskOf (map (λ (x : Entry). x .index) s))
+  members-is [] m e = let z : _≡_ {A = ℕ} 0 1 = cc in absurd (omega arith)
+  members-is (x ∷ xs) m e = ((x .index, x .rule, refl), cc)
+
+  after-members : (m : ℕ) (y : Narrowed) → Narrows ts 0 (number 0 rules) y → survivorsAfter switch y ≡ accepted (m ∷ [])
+      → (m ≡ mask) × Some surviving × (afterOperands switch y ≡ first surviving)
+  after-members m (emptied k) h e = let z : _≡_ {A = ℕ} 0 1 = cc in absurd (omega arith)
+  after-members m (left s) h e =
+      let f = left-is s (h .0) in
+      let g = members-is surviving m (sym (ap membersOf f) ∙ e) in
+      (g .1 ∙ mask-is, g .0, ap first f)
+
+  pub survivors-members : (m : ℕ) → survivorsOf switch rules ts ≡ accepted (m ∷ []) → Surviving m
+  unfolding survivorsOf resolve
+  survivors-members m e = go (either (ltb (length ts) (longest rules)) (ltb (longest rules) (length ts))) refl e
+    where
+      go : (b : Bool) → either (ltb (length ts) (longest rules)) (ltb (longest rules) (length ts)) ≡ b
+          → choose b (refusal 5 0 (0 ∷ [])) (survivorsAfter switch (narrow ts 0 (number 0 rules))) ≡ accepted (m ∷ []) → Surviving m
+      go true c f = let z : _≡_ {A = ℕ} 0 1 = cc in absurd (omega arith)
+      go false c f =
+          let h = after-members m (narrow ts 0 (number 0 rules)) (narrow-narrows ts 0 (number 0 rules)) f in
+          record {
+            within = subst (λ (n : ℕ). n < 2 ^ length rules) (sym (h .0)) (sift-lt (passesAll switch ts) rules (2 ^ length rules - 1) refl);
+            bits = λ i r f. ap (bit i) (h .0) ∙ bit-mask (passesAll switch ts) rules i r f;
+            members = ap (select (number 0 rules)) (h .0) ∙ mask-picks;
+            some = h .1;
+            choice = ap (λ (b : Bool). choose b wrongCount (afterOperands switch (narrow ts 0 (number 0 rules)))) c ∙ h .2;
+          }
+
+  -- what is refused of the one is refused of the other
+  refused-first : (s : List Entry) (n p : ℕ) → membersOf s ≡ refusal n p (0 ∷ []) ↔ answered (first s) ≡ refusal n p noChoice
+  refused-first [] n p = (λ e. cc, λ e. cc)
+  refused-first (x ∷ xs) n p = (
+    λ e. let z : _≡_ {A = ℕ} 0 1 = cc in absurd (omega arith),
+    λ e. let z : _≡_ {A = ℕ} 0 1 = cc in absurd (omega arith),
+  )
+
+  refused-after : (y : Narrowed) (n p : ℕ) → survivorsAfter switch y ≡ refusal n p (0 ∷ []) ↔ answered (afterOperands switch y) ≡ refusal n p noChoice
+  refused-after (emptied k) n p = (λ e. cc, λ e. cc)
+  refused-after (left s) n p = refused-first (concreteStep switch s) n p
+
+  pub survivors-refused : (n p : ℕ) → survivorsOf switch rules ts ≡ refusal n p (0 ∷ []) ↔ answered (resolve switch rules ts) ≡ refusal n p noChoice
+  unfolding survivorsOf resolve
+  survivors-refused n p = go (either (ltb (length ts) (longest rules)) (ltb (longest rules) (length ts)))
+    where
+      go : (b : Bool) → choose b (refusal 5 0 (0 ∷ [])) (survivorsAfter switch (narrow ts 0 (number 0 rules))) ≡ refusal n p (0 ∷ [])
+          ↔ answered (choose b wrongCount (afterOperands switch (narrow ts 0 (number 0 rules)))) ≡ refusal n p noChoice
+      go true = (λ e. cc, λ e. cc)
+      go false = refused-after (narrow ts 0 (number 0 rules)) n p

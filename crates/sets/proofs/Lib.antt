@@ -1,2 +1,0 @@
--- Laws of sets of either kind.
-pub mod AnyPapers

@@ -1,0 +1,30 @@
+-- `automatic_conversion_combine` meets its contract.
+-- Assumes nothing.
+use borrow.Author.Tests.{lt-ltb, le-ltb, eq-eqb, ne-eqb}
+use Rattle.types.specs.Conversion.{combineOf}
+use borrow.Author.Needs.{needs}
+use Rattle.types.proofs.conversion.automatic_conversion_combine.Statement.{statement}
+use Rattle.types.proofs.conversion.automatic_conversion_combine.Tie as tie
+
+returns : tie.Need-returns
+unfolding combineOf
+returns c = simp (le-ltb _ _ (c .if1 .taken))
+
+returns-2 : tie.Need-returns-2
+unfolding combineOf
+returns-2 c = simp (lt-ltb _ _ (c .before .before .if1 .left), le-ltb _ _ (c .if2 .taken))
+
+combined-requires : tie.Need-combined-requires
+combined-requires c κs = search needs
+
+returns-3 : tie.Need-returns-3
+unfolding combineOf
+returns-3 c = simp (lt-ltb _ _ (c .before .before .before .before .if1 .left), lt-ltb _ _ (c .before .before .if2 .left), ← c .before .combined .ensures, eq-eqb _ _ (c .if3 .taken))
+
+returns-4 : tie.Need-returns-4
+unfolding combineOf
+returns-4 c = simp (lt-ltb _ _ (c .before .before .before .before .if1 .left), lt-ltb _ _ (c .before .before .if2 .left), ← c .before .combined .ensures, ne-eqb _ _ (c .if3 .left))
+
+pub automatic-conversion-combine-spec : {M : Type 1} → statement M
+automatic-conversion-combine-spec =
+    tie.close (tie.spec returns returns-2 combined-requires returns-3 returns-4)

@@ -1,0 +1,234 @@
+//! What the library answers: the structures of include/azwukran.h, field for field, and what each unpacks to, the accepted
+//! answer as a Rust type or the refusal.
+
+use std::error::Error;
+use std::fmt;
+
+/// The number that stands for none.
+pub const NONE: u8 = 255;
+
+/// The numbers of answers. The header says when a question is refused by each, and what its place then is.
+pub mod number {
+    pub const ACCEPTED: u8 = 0;
+    pub const EMPTY: u8 = 1;
+    pub const SEVERAL: u8 = 2;
+    pub const TOO_MANY: u8 = 3;
+    pub const NO_ARGUMENT: u8 = 4;
+    pub const COUNT: u8 = 5;
+    pub const ARGUMENT: u8 = 6;
+    pub const UNKNOWN: u8 = 7;
+    pub const MALFORMED: u8 = 8;
+    pub const TOO_LARGE: u8 = 9;
+    pub const ROOM: u8 = 10;
+    pub const NOTHING: u8 = 11;
+    pub const DISAGREE: u8 = 12;
+    pub const OUTSIDE: u8 = 13;
+    /// That of a run that stopped.
+    pub const STOPPED: u8 = 255;
+}
+
+/// A chosen rule, with its index in the function's full listing or among the rules handed in. The mark is kept free.
+#[repr(C)]
+#[derive(Clone, Copy, Debug, PartialEq, Eq)]
+pub struct ChosenAnswer {
+    pub number: u8,
+    pub index: u8,
+    pub arguments: [u8; 4],
+    pub count: u8,
+    pub result: u8,
+    pub mark: u8,
+    pub place: usize,
+}
+
+/// A rule; arguments that it has not are 255.
+#[repr(C)]
+#[derive(Clone, Copy, Debug, PartialEq, Eq)]
+pub struct RuleAnswer {
+    pub number: u8,
+    pub arguments: [u8; 4],
+    pub count: u8,
+    pub result: u8,
+    pub place: usize,
+}
+
+/// A Regular set, by its parts; on a refusal the empty one.
+#[repr(C)]
+#[derive(Clone, Copy, Debug, PartialEq, Eq)]
+pub struct RegularAnswer {
+    pub number: u8,
+    pub arity: u8,
+    pub constructors: u16,
+    pub scalars: u16,
+    pub conclusion: u8,
+    pub place: usize,
+}
+
+/// The scalar of a consensus. Who gave it is kept free.
+#[repr(C)]
+#[derive(Clone, Copy, Debug, PartialEq, Eq)]
+pub struct ConsensusAnswer {
+    pub number: u8,
+    pub scalar: u8,
+    pub giver: u8,
+    pub component: usize,
+    pub place: usize,
+}
+
+/// The type of an expression, and the length of its worksheet in bytes. The mark is kept free.
+#[repr(C)]
+#[derive(Clone, Copy, Debug, PartialEq, Eq)]
+pub struct TypeAnswer {
+    pub number: u8,
+    pub type_code: u8,
+    pub mark: u8,
+    pub length: usize,
+    pub place: usize,
+}
+
+/// How a worksheet ran: to its end, or, with number 255, to the line that is the place. The mark is kept free.
+#[repr(C)]
+#[derive(Clone, Copy, Debug, PartialEq, Eq)]
+pub struct RunAnswer {
+    pub number: u8,
+    pub top: u8,
+    pub mark: u8,
+    pub operands: usize,
+    pub place: usize,
+}
+
+/// Whether a mask was written.
+#[repr(C)]
+#[derive(Clone, Copy, Debug, PartialEq, Eq)]
+pub struct MaskAnswer {
+    pub number: u8,
+    pub place: usize,
+}
+
+/// A refusal: its number, 1 to 13, and its place.
+#[derive(Clone, Copy, Debug, PartialEq, Eq)]
+pub struct Refusal {
+    pub number: u8,
+    pub place: usize,
+}
+
+/// A rule in type codes.
+#[derive(Clone, Debug, PartialEq, Eq)]
+pub struct Rule {
+    pub arguments: Vec<u8>,
+    pub result: u8,
+}
+
+/// A rule and its index.
+#[derive(Clone, Debug, PartialEq, Eq)]
+pub struct Chosen {
+    pub index: u8,
+    pub rule: Rule,
+}
+
+/// A Regular set made by hand, by its parts.
+#[derive(Clone, Copy, Debug, PartialEq, Eq)]
+pub struct Regular {
+    pub arity: u8,
+    pub constructors: u16,
+    pub scalars: u16,
+    pub conclusion: u8,
+}
+
+/// How a worksheet ran on the strict machine.
+#[derive(Clone, Copy, Debug, PartialEq, Eq)]
+pub enum Run {
+    /// To its end, with so many operands left and the type of the topmost.
+    Ended { operands: usize, top: Option<u8> },
+    /// It stopped at this line, counted from 0.
+    Stopped { line: usize },
+}
+
+impl ChosenAnswer {
+    pub fn unpack(self) -> Result<Chosen, Refusal> {
+        accepted(self.number, self.place)?;
+        Ok(Chosen { index: self.index, rule: unpacked_rule(self.arguments, self.count, self.result) })
+    }
+}
+
+impl RuleAnswer {
+    pub fn unpack(self) -> Result<Rule, Refusal> {
+        accepted(self.number, self.place)?;
+        Ok(unpacked_rule(self.arguments, self.count, self.result))
+    }
+
+    /// The rule in six bytes, as a List takes it.
+    pub fn bytes(self) -> [u8; 6] {
+        let [a0, a1, a2, a3] = self.arguments;
+        [a0, a1, a2, a3, self.count, self.result]
+    }
+}
+
+impl RegularAnswer {
+    pub fn unpack(self) -> Result<Regular, Refusal> {
+        accepted(self.number, self.place)?;
+        let RegularAnswer { arity, constructors, scalars, conclusion, .. } = self;
+        Ok(Regular { arity, constructors, scalars, conclusion })
+    }
+}
+
+impl ConsensusAnswer {
+    pub fn unpack(self) -> Result<u8, Refusal> {
+        accepted(self.number, self.place).map(|()| self.scalar)
+    }
+}
+
+impl TypeAnswer {
+    pub fn unpack(self) -> Result<u8, Refusal> {
+        accepted(self.number, self.place).map(|()| self.type_code)
+    }
+}
+
+impl RunAnswer {
+    pub fn unpack(self) -> Run {
+        if self.number == number::STOPPED {
+            Run::Stopped { line: self.place }
+        } else {
+            Run::Ended { operands: self.operands, top: (self.operands > 0).then_some(self.top) }
+        }
+    }
+}
+
+impl MaskAnswer {
+    pub fn unpack(self) -> Result<(), Refusal> {
+        accepted(self.number, self.place)
+    }
+}
+
+fn accepted(number: u8, place: usize) -> Result<(), Refusal> {
+    match number {
+        number::ACCEPTED => Ok(()),
+        number => Err(Refusal { number, place }),
+    }
+}
+
+fn unpacked_rule(arguments: [u8; 4], count: u8, result: u8) -> Rule {
+    Rule { arguments: arguments[..usize::from(count)].to_vec(), result }
+}
+
+impl fmt::Display for Refusal {
+    fn fmt(&self, f: &mut fmt::Formatter) -> fmt::Result {
+        let reason = match self.number {
+            number::EMPTY => "an empty set has no preferred rule",
+            number::SEVERAL => "a set of several constructors has no preferred rule",
+            number::TOO_MANY => "too many rules or arguments",
+            number::NO_ARGUMENT => "some rule has no argument there",
+            number::COUNT => "wrong number of arguments",
+            number::ARGUMENT => "no rule is left after this argument",
+            number::UNKNOWN => "unknown function, type, scalar, index, set bit or conclusion",
+            number::MALFORMED => "bytes cut short or left over, or an unknown tag",
+            number::TOO_LARGE => "the expression has more than 64 nodes or is deeper than 16",
+            number::ROOM => "the worksheet or the mask needs more room",
+            number::NOTHING => "a consensus over nothing",
+            number::DISAGREE => "there is no consensus",
+            _ => "the rule has no result",
+        };
+        write!(f, "refusal {} at {}: {reason}", self.number, self.place)
+    }
+}
+
+impl Error for Refusal {}
