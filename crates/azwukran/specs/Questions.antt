@@ -10,6 +10,9 @@ use Rattle.types.specs.declared.conversion.Base.the-variants as base
 abbrev pub on : ℕ → Bool
 on switch = not (eqb switch 0)
 
--- 255 is none, anything else a scalar by its number
+-- this number is no base, anything else a scalar by its number
+abbrev pub noBase : ℕ
+noBase = 255
+
 unfoldable pub baseOf : ℕ → Base
-baseOf n = choose (eqb n 255) base.Nothing (base.Scalar (record { 0 = n }))
+baseOf n = choose (eqb n noBase) base.Nothing (base.Scalar (record { 0 = n }))

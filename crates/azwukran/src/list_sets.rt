@@ -12,12 +12,10 @@ use crate::lent::lend_members;
 use c_answers::ChosenForC;
 use c_answers::MaskForC;
 use c_answers::chosen_for_c;
+use c_sets::RULE_BYTES;
 use c_sets::list_arg;
 use c_sets::list_concrete_only;
 use c_sets::list_preferred;
-
-// The bytes of a rule.
-const RULE_BYTES: usize = 6;
 
 // The members that an argument of a type leaves, as a mask in front of the lent bytes.
 #[no_mangle]
@@ -31,8 +29,7 @@ pub extern "C" fn azwukran_list_arg(
     ensures answer { λ r. ⌜ r ≡ maskForC (inRoom (rulesHanded (now (rules .entry))) (now (out .entry)) (membersLeft (ofList (now (rules .entry)) (now (members .entry)) (listArg index code) noListValues))) ⌝ }
     ensures lent { λ _. ⌜ now (out .exit) ≡ lentBy (rulesHanded (now (rules .entry))) (membersLeft (ofList (now (rules .entry)) (now (members .entry)) (listArg index code) noListValues)) (now (out .entry)) ⌝ }
 {
-    let left = list_arg(rules, members, index, code);
-    lend_members(left, rules.len() / RULE_BYTES, out)
+    lend_members(list_arg(rules, members, index, code), handed(rules), out)
 }
 
 // The members without an abstract argument, as a mask in front of the lent bytes.
@@ -45,8 +42,7 @@ pub extern "C" fn azwukran_list_concrete_only(
     ensures answer { λ r. ⌜ r ≡ maskForC (inRoom (rulesHanded (now (rules .entry))) (now (out .entry)) (membersLeft (ofList (now (rules .entry)) (now (members .entry)) (listStep keep.Concrete) noListValues))) ⌝ }
     ensures lent { λ _. ⌜ now (out .exit) ≡ lentBy (rulesHanded (now (rules .entry))) (membersLeft (ofList (now (rules .entry)) (now (members .entry)) (listStep keep.Concrete) noListValues)) (now (out .entry)) ⌝ }
 {
-    let left = list_concrete_only(rules, members);
-    lend_members(left, rules.len() / RULE_BYTES, out)
+    lend_members(list_concrete_only(rules, members), handed(rules), out)
 }
 
 // The first member, with its index among the rules.
@@ -55,4 +51,11 @@ pub extern "C" fn azwukran_list_preferred(rules: &[u8], members: &[u8]) -> Chose
     ensures { λ r. ⌜ r ≡ chosenForC (ofList (now (rules .entry)) (now (members .entry)) listPreferred noChoice) ⌝ }
 {
     chosen_for_c(list_preferred(rules, members))
+}
+
+// How many rules were handed in.
+fn handed(rules: &[u8]) -> usize
+    ensures { λ r. ⌜ r ≡ rulesHanded (now (rules .entry)) ⌝ }
+{
+    rules.len() / RULE_BYTES
 }

@@ -15,6 +15,8 @@ use c_sets::regular_arg;
 use c_sets::regular_concrete_only;
 use c_sets::regular_preferred;
 use c_sets::regular_rule;
+use scalars::ScalarSet;
+use types::ConstructorSet;
 
 // The set that an argument of a type leaves.
 #[no_mangle]
@@ -28,7 +30,14 @@ pub extern "C" fn azwukran_regular_arg(
 ) -> RegularForC
     ensures { λ r. ⌜ r ≡ regularForC (ofRegular arity constructors scalars conclusion (regularArg index code) noSet) ⌝ }
 {
-    regular_for_c(regular_arg(arity, constructors, scalars, conclusion, index, code))
+    regular_for_c(regular_arg(
+        arity,
+        ConstructorSet(constructors),
+        ScalarSet(scalars),
+        conclusion,
+        index,
+        code,
+    ))
 }
 
 // The set without its abstract scalars.
@@ -41,7 +50,12 @@ pub extern "C" fn azwukran_regular_concrete_only(
 ) -> RegularForC
     ensures { λ r. ⌜ r ≡ regularForC (ofRegular arity constructors scalars conclusion regularConcrete noSet) ⌝ }
 {
-    regular_for_c(regular_concrete_only(arity, constructors, scalars, conclusion))
+    regular_for_c(regular_concrete_only(
+        arity,
+        ConstructorSet(constructors),
+        ScalarSet(scalars),
+        conclusion,
+    ))
 }
 
 // The preferred rule.
@@ -54,7 +68,12 @@ pub extern "C" fn azwukran_regular_preferred(
 ) -> RuleForC
     ensures { λ r. ⌜ r ≡ ruleForC (ofRegular arity constructors scalars conclusion regularPreferred noRule) ⌝ }
 {
-    rule_for_c(regular_preferred(arity, constructors, scalars, conclusion))
+    rule_for_c(regular_preferred(
+        arity,
+        ConstructorSet(constructors),
+        ScalarSet(scalars),
+        conclusion,
+    ))
 }
 
 // The rule at an index of the set's listing.
@@ -68,5 +87,11 @@ pub extern "C" fn azwukran_regular_rule(
 ) -> RuleForC
     ensures { λ r. ⌜ r ≡ ruleForC (ofRegular arity constructors scalars conclusion (regularRuleAt index) noRule) ⌝ }
 {
-    rule_for_c(regular_rule(arity, constructors, scalars, conclusion, index))
+    rule_for_c(regular_rule(
+        arity,
+        ConstructorSet(constructors),
+        ScalarSet(scalars),
+        conclusion,
+        index,
+    ))
 }

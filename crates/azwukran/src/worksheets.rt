@@ -9,10 +9,13 @@ ghost use Rattle.worksheet.specs.Typing.{typing, answerOf};
 ghost use Rattle.c_answers.specs.Answers.{typeForC, runForC};
 ghost use Rattle.azwukran.specs.Questions.{on};
 use c_answers::FREE;
+use c_answers::NO_VALUE;
 use c_answers::RunForC;
+use c_answers::STOPPED;
 use c_answers::TypeForC;
 use machine::Run;
 use machine::run_worksheet;
+use scalars::UNUSED;
 use worksheet::TypeAnswer;
 use worksheet::type_expression;
 
@@ -25,9 +28,9 @@ pub extern "C" fn azwukran_type(bytes: &[u8], switch: u8, out: &mut [u8]) -> Typ
     match type_expression(bytes, switch != 0, out) {
         TypeAnswer::Refused(why) => TypeForC {
             number: why.number(),
-            code: 255,
+            code: UNUSED,
             mark: FREE,
-            length: 255,
+            length: NO_VALUE,
             place: why.place(),
         },
         TypeAnswer::Typed { code, len } => TypeForC {
@@ -47,10 +50,10 @@ pub extern "C" fn azwukran_run(sheet: &[u8]) -> RunForC
 {
     match run_worksheet(sheet) {
         Run::Stopped(line) => RunForC {
-            number: 255,
-            top: 255,
+            number: STOPPED,
+            top: UNUSED,
             mark: FREE,
-            operands: 255,
+            operands: NO_VALUE,
             place: line,
         },
         Run::Ended { operands, top } => RunForC {

@@ -1,5 +1,5 @@
 -- The struct of an answer, from the number, the place and the values that its paper gives. A field that is kept free holds 255.
-use Rattle.scalars.specs.Paper.{Paper, number, place, value}
+use Rattle.scalars.specs.Paper.{Paper, number, place, value, unused}
 use Rattle.c_answers.specs.declared.answers.ChosenForC.{ChosenForC}
 use Rattle.c_answers.specs.declared.answers.RuleForC.{RuleForC}
 use Rattle.c_answers.specs.declared.answers.RegularForC.{RegularForC}
@@ -11,7 +11,7 @@ use Rattle.c_answers.specs.declared.answers.MaskForC.{MaskForC}
 -- a chosen rule: its index, the four arguments, their count, the result; the mark is kept free
 unfoldable pub chosenForC : Paper → ChosenForC
 chosenForC p =
-    record { number = number p; index = value 0 p; a0 = value 1 p; a1 = value 2 p; a2 = value 3 p; a3 = value 4 p; count = value 5 p; result = value 6 p; mark = 255; place = place p }
+    record { number = number p; index = value 0 p; a0 = value 1 p; a1 = value 2 p; a2 = value 3 p; a3 = value 4 p; count = value 5 p; result = value 6 p; mark = unused; place = place p }
 
 -- a rule: the four arguments, their count, the result
 unfoldable pub ruleForC : Paper → RuleForC
@@ -24,15 +24,15 @@ regularForC p = record { number = number p; arity = value 0 p; constructors = va
 
 -- a consensus: its scalar; the giver's kind and number are kept free
 unfoldable pub consensusForC : Paper → ConsensusForC
-consensusForC p = record { number = number p; scalar = value 0 p; giver = 255; component = 255; place = place p }
+consensusForC p = record { number = number p; scalar = value 0 p; giver = unused; component = unused; place = place p }
 
 -- the type of an expression, and its worksheet's length; the mark is kept free
 unfoldable pub typeForC : Paper → TypeForC
-typeForC p = record { number = number p; code = value 0 p; mark = 255; length = value 1 p; place = place p }
+typeForC p = record { number = number p; code = value 0 p; mark = unused; length = value 1 p; place = place p }
 
 -- a run: how many operands are left, and the topmost one's type; the mark is kept free
 unfoldable pub runForC : Paper → RunForC
-runForC p = record { number = number p; top = value 1 p; mark = 255; operands = value 0 p; place = place p }
+runForC p = record { number = number p; top = value 1 p; mark = unused; operands = value 0 p; place = place p }
 
 -- an answer whose value stands in lent bytes
 unfoldable pub maskForC : Paper → MaskForC

@@ -1,7 +1,15 @@
 // The structs, one for each kind of answer.
 
+use scalars::UNUSED;
+
 // What stands in a field that is kept free.
-pub const FREE: u8 = 255;
+pub const FREE: u8 = UNUSED;
+
+// What stands for no value in a field as wide as a place.
+pub const NO_VALUE: usize = UNUSED as usize;
+
+// The number of a machine's stop, which is no refusal.
+pub const STOPPED: u8 = 255;
 
 // A chosen rule, with its index.
 #[repr(C)]

@@ -11,6 +11,7 @@ use crate::answers::ChosenForC;
 use crate::answers::ConsensusForC;
 use crate::answers::FREE;
 use crate::answers::MaskForC;
+use crate::answers::NO_VALUE;
 use crate::answers::RegularForC;
 use crate::answers::RuleForC;
 use lists::ChosenAnswer;
@@ -20,17 +21,15 @@ use regular::RegularAnswer;
 use rules::Rule;
 use rules::RuleAnswer;
 use scalars::ScalarAnswer;
+use scalars::UNUSED;
 use scalars::Verdict;
-
-// What stands for a value that a refusal leaves out.
-const NONE: u8 = 255;
 
 // The answer where a rule is chosen.
 pub fn chosen_for_c(answer: ChosenAnswer) -> ChosenForC
     ensures { λ r. ⌜ r ≡ chosenForC (chosenPaper answer) ⌝ }
 {
     match answer {
-        ChosenAnswer::Refused(why) => chosen(why.number(), NONE, Rule::BLANK, why.place()),
+        ChosenAnswer::Refused(why) => chosen(why.number(), UNUSED, Rule::BLANK, why.place()),
         ChosenAnswer::Rule(choice) => {
             let rule = choice.rule;
             chosen(0, choice.index, rule, 0)
@@ -129,16 +128,16 @@ pub fn consensus_for_c(answer: ScalarAnswer) -> ConsensusForC
     match answer {
         ScalarAnswer::Refused(why) => ConsensusForC {
             number: why.number(),
-            scalar: NONE,
+            scalar: UNUSED,
             giver: FREE,
-            component: 255,
+            component: NO_VALUE,
             place: why.place(),
         },
         ScalarAnswer::Scalar(scalar) => ConsensusForC {
             number: 0,
             scalar: scalar.0,
             giver: FREE,
-            component: 255,
+            component: NO_VALUE,
             place: 0,
         },
     }

@@ -4,10 +4,11 @@
 mod list_parts;
 mod regular_parts;
 
+pub use list_parts::RULE_BYTES;
 pub use list_parts::list_arg;
 pub use list_parts::list_concrete_only;
-pub use list_parts::list_from;
 pub use list_parts::list_preferred;
+pub use list_parts::rules_in;
 pub use regular_parts::regular_arg;
 pub use regular_parts::regular_concrete_only;
 pub use regular_parts::regular_from;

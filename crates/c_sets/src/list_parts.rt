@@ -6,7 +6,7 @@ ghost use mathlib.Core.Path.{_≡_};
 ghost use Prim.Native.Nat.{_<_};
 ghost use Rattle.scalars.specs.Paper.{refused};
 ghost use Rattle.lists.specs.ChosenPaper.{listPaper, chosenPaper, noChoice};
-ghost use Rattle.lists.specs.List.{acceptedList, noListValues, checkedList, listArg, listStep, listPreferred};
+ghost use Rattle.lists.specs.List.{mostRules, acceptedList, noListValues, listArg, listStep, listPreferred};
 ghost use Rattle.rules.specs.declared.rule.Keep.the-variants as keep;
 ghost use Rattle.c_sets.specs.Sets.{byteRule, byteRules, ofList};
 use lent_masks::MaskAnswer;
@@ -14,28 +14,13 @@ use lent_masks::mask_in;
 use lists::ChosenAnswer;
 use lists::List;
 use lists::ListAnswer;
+use lists::MOST_RULES;
 use rules::Rule;
 use scalars::Refusal;
 use scalars::Verdict;
 
 // The bytes of a rule.
-const RULE_BYTES: usize = 6;
-
-// How many rules the array of a List holds.
-const HELD: usize = 63;
-
-// The List, with 255 in what is not in use. Refused as `List::checked` is.
-pub fn list_from(rules: &[u8], members: &[u8]) -> ListAnswer
-    ensures { λ r. ⌜ listPaper r ≡ ofList (now (rules .entry)) (now (members .entry)) checkedList noListValues ⌝ }
-{
-    let made = list_in(rules, members);
-    let verdict = made.answer;
-    let list = made.list;
-    match verdict {
-        Verdict::Refused(why) => no_list(why),
-        Verdict::Accepted => list.checked(),
-    }
-}
+pub const RULE_BYTES: usize = 6;
 
 // The members that take an argument of a type. Refused as `List::arg` is.
 pub fn list_arg(rules: &[u8], members: &[u8], index: usize, code: u8) -> ListAnswer
@@ -104,20 +89,20 @@ fn no_list(why: Refusal) -> ListAnswer
     ListAnswer {
         answer: Verdict::Refused(why),
         list: List {
-            rules: [Rule::BLANK; 63],
+            rules: [Rule::BLANK; MOST_RULES],
             len: 0,
             members: 0,
         },
     }
 }
 
-// The rules, as far as the array of a List holds them.
-fn rules_in(bytes: &[u8]) -> [Rule; 63]
+// The rules that stand one behind another, as far as the array of a List holds them; blank behind the last whole one.
+pub fn rules_in(bytes: &[u8]) -> [Rule; MOST_RULES]
     ensures { λ r. ⌜ r ≡ byteRules (now (bytes .entry)) ⌝ }
 {
-    let mut out = [Rule::BLANK; 63];
+    let mut out = [Rule::BLANK; MOST_RULES];
     let mut k: usize = 0;
-    while k < HELD {
+    while k < MOST_RULES {
         out[k] = rule_in(bytes, k);
         k += 1;
     }
@@ -126,7 +111,7 @@ fn rules_in(bytes: &[u8]) -> [Rule; 63]
 
 // The k-th rule; behind the last whole one, the blank rule.
 fn rule_in(bytes: &[u8], k: usize) -> Rule
-    requires { ⌜ k < 63 ⌝ }
+    requires { ⌜ k < mostRules ⌝ }
     ensures { λ r. ⌜ r ≡ byteRule (now (bytes .entry)) k ⌝ }
 {
     let at = RULE_BYTES * k;

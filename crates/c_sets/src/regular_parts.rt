@@ -20,8 +20,13 @@ use types::ConstructorSet;
 const CONCLUSION_COUNT: u8 = 10;
 
 // The set itself. Refused as `Regular::verdict` is.
-pub fn regular_from(arity: u8, constructors: u16, scalars: u16, conclusion: u8) -> RegularAnswer
-    ensures { λ r. ⌜ regularPaper r ≡ ofRegular arity constructors scalars conclusion checkedRegular noSet ⌝ }
+pub fn regular_from(
+    arity: u8,
+    constructors: ConstructorSet,
+    scalars: ScalarSet,
+    conclusion: u8,
+) -> RegularAnswer
+    ensures { λ r. ⌜ regularPaper r ≡ ofRegular arity (constructors .0) (scalars .0) conclusion checkedRegular noSet ⌝ }
 {
     if CONCLUSION_COUNT <= conclusion {
         return RegularAnswer::Refused(Refusal::Unknown(0));
@@ -36,13 +41,13 @@ pub fn regular_from(arity: u8, constructors: u16, scalars: u16, conclusion: u8) 
 // The set that an argument of a type leaves. Refused as `Regular::arg` is.
 pub fn regular_arg(
     arity: u8,
-    constructors: u16,
-    scalars: u16,
+    constructors: ConstructorSet,
+    scalars: ScalarSet,
     conclusion: u8,
     index: usize,
     code: u8,
 ) -> RegularAnswer
-    ensures { λ r. ⌜ regularPaper r ≡ ofRegular arity constructors scalars conclusion (regularArg index code) noSet ⌝ }
+    ensures { λ r. ⌜ regularPaper r ≡ ofRegular arity (constructors .0) (scalars .0) conclusion (regularArg index code) noSet ⌝ }
 {
     if CONCLUSION_COUNT <= conclusion {
         return RegularAnswer::Refused(Refusal::Unknown(0));
@@ -53,11 +58,11 @@ pub fn regular_arg(
 // The set without its abstract scalars. Refused as `Regular::concrete_only` is.
 pub fn regular_concrete_only(
     arity: u8,
-    constructors: u16,
-    scalars: u16,
+    constructors: ConstructorSet,
+    scalars: ScalarSet,
     conclusion: u8,
 ) -> RegularAnswer
-    ensures { λ r. ⌜ regularPaper r ≡ ofRegular arity constructors scalars conclusion regularConcrete noSet ⌝ }
+    ensures { λ r. ⌜ regularPaper r ≡ ofRegular arity (constructors .0) (scalars .0) conclusion regularConcrete noSet ⌝ }
 {
     if CONCLUSION_COUNT <= conclusion {
         return RegularAnswer::Refused(Refusal::Unknown(0));
@@ -66,8 +71,13 @@ pub fn regular_concrete_only(
 }
 
 // The preferred rule. Refused as `Regular::most_preferred` is.
-pub fn regular_preferred(arity: u8, constructors: u16, scalars: u16, conclusion: u8) -> RuleAnswer
-    ensures { λ r. ⌜ rulePaper r ≡ ofRegular arity constructors scalars conclusion regularPreferred noRule ⌝ }
+pub fn regular_preferred(
+    arity: u8,
+    constructors: ConstructorSet,
+    scalars: ScalarSet,
+    conclusion: u8,
+) -> RuleAnswer
+    ensures { λ r. ⌜ rulePaper r ≡ ofRegular arity (constructors .0) (scalars .0) conclusion regularPreferred noRule ⌝ }
 {
     if CONCLUSION_COUNT <= conclusion {
         return RuleAnswer::Refused(Refusal::Unknown(0));
@@ -78,12 +88,12 @@ pub fn regular_preferred(arity: u8, constructors: u16, scalars: u16, conclusion:
 // The rule at an index of the set's listing. Refused as `Regular::overload_list` is, then 7 at 1 for an unknown index.
 pub fn regular_rule(
     arity: u8,
-    constructors: u16,
-    scalars: u16,
+    constructors: ConstructorSet,
+    scalars: ScalarSet,
     conclusion: u8,
     index: u8,
 ) -> RuleAnswer
-    ensures { λ r. ⌜ rulePaper r ≡ ofRegular arity constructors scalars conclusion (regularRuleAt index) noRule ⌝ }
+    ensures { λ r. ⌜ rulePaper r ≡ ofRegular arity (constructors .0) (scalars .0) conclusion (regularRuleAt index) noRule ⌝ }
 {
     if CONCLUSION_COUNT <= conclusion {
         return RuleAnswer::Refused(Refusal::Unknown(0));
@@ -111,13 +121,18 @@ fn listed_at(set: Regular, index: u8) -> RuleAnswer
 }
 
 // The set of these parts, as it was handed in.
-fn regular_in(arity: u8, constructors: u16, scalars: u16, conclusion: u8) -> Regular
-    ensures { λ r. ⌜ r ≡ regularOf arity constructors scalars (conclusionOf conclusion) ⌝ }
+fn regular_in(
+    arity: u8,
+    constructors: ConstructorSet,
+    scalars: ScalarSet,
+    conclusion: u8,
+) -> Regular
+    ensures { λ r. ⌜ r ≡ regularOf arity (constructors .0) (scalars .0) (conclusionOf conclusion) ⌝ }
 {
     Regular {
         arity: arity,
-        constructors: ConstructorSet(constructors),
-        scalars: ScalarSet(scalars),
+        constructors: constructors,
+        scalars: scalars,
         conclude: conclusion_of(conclusion),
     }
 }

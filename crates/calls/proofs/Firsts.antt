@@ -1,6 +1,5 @@
 -- Filters of numbered rules: two are one, with both tests; the first rule that is left stands at its index in the listing, and none
--- before it passes; where nothing is left, no rule of the listing passes.
--- Assumes nothing.
+-- before it passes. Assumes nothing.
 use mathlib.Core.Path.{_≡_, refl, ap}
 use mathlib.Core.Bool.{Bool, true, false}
 use mathlib.Core.List.{List, [], _∷_}
@@ -26,21 +25,6 @@ pub record IsFirst (q : Signature → Bool) (rules : List Signature) (i : ℕ) (
   pub there : getElem? rules i ≡ some r
   pub passes : q r ≡ true
   pub earliest : (j : ℕ) → j < i → (r′ : Signature) → getElem? rules j ≡ some r′ → q r′ ≡ false
-
--- nothing is left
-pub none-passes : (q : Signature → Bool) (rules : List Signature) (i : ℕ) → keep q (number i rules) ≡ []
-    → (j : ℕ) (r : Signature) → getElem? rules j ≡ some r → q r ≡ false
-none-passes q [] i e j r h = cc
-none-passes q (x ∷ xs) i e zero r h = go (q x) refl e
-  where
-    go : (b : Bool) → q x ≡ b → consIf b (record { index = i; rule = x }) (keep q (number (suc i) xs)) ≡ [] → q r ≡ false
-    go true a e′ = cc
-    go false a e′ = cc
-none-passes q (x ∷ xs) i e (suc j) r h = none-passes q xs (suc i) (go (q x) e) j r h
-  where
-    go : (b : Bool) → consIf b (record { index = i; rule = x }) (keep q (number (suc i) xs)) ≡ [] → keep q (number (suc i) xs) ≡ []
-    go true e′ = cc
-    go false e′ = e′
 
 -- the first that is left
 first-from : (q : Signature → Bool) (rules : List Signature) (i j : ℕ) (r : Signature) → first (keep q (number i rules)) ≡ chosen j r

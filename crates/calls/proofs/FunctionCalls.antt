@@ -6,27 +6,32 @@ use mathlib.Core.List.{List}
 use Prim.Native.Nat.{ℕ, _≤_, _<_}
 use native.Mathlib.Omega.{arith}
 use lib.ListN.{length}
+use borrow.Author.Tests.{le-leb}
 use Rattle.scalars.specs.Mask.{every, bits}
 use Rattle.rules.specs.Signature.{Signature}
 use Rattle.rules.proofs.Records.{short?}
-use Rattle.lists.specs.List.{signatures}
+use Rattle.lists.specs.List.{mostRules, signatures}
 use Rattle.lists.specs.private.Tested.{Valid}
 use Rattle.regular.specs.Regular.{regularRules, codesOf, allConclude, concludedOf, emptySet?}
 use Rattle.types.specs.TypeCode.{predeclaredCode}
 use Rattle.functions.specs.Sequences.{floatScalars, concreteFloatScalars, concreteIntScalars, vectorSizes, vector, matrix, scalarOrVecn}
 use Rattle.functions.specs.ListedRules.{listedRules}
-use Rattle.functions.specs.Functions.{functionCount, functionSets, functionSetOf, rulesIn, listingOf}
-use Rattle.lists.specs.Expansion.{listOf}
+use Rattle.functions.specs.Functions.{functionSets, functionSetOf, rulesIn, listingOf}
+use Rattle.lists.specs.Expansion.{listOf, expanded}
+use Rattle.lists.specs.ChosenPaper.{listPaper}
+use Rattle.lists.specs.declared.list.ListAnswer.{ListAnswer}
 use Rattle.calls.specs.private.CallSets.{Callable, Full}
 use Rattle.lists.specs.declared.list.List as lists
 use Rattle.functions.specs.declared.mathfunction.FunctionSet.{FunctionSet}
 use Rattle.functions.specs.declared.mathfunction.FunctionSet.the-variants as set
-use Rattle.functions.specs.declared.listed_rules.Listed.{Listed}
-use Rattle.functions.specs.declared.listed_rules.Listed.the-variants.{Ldexp, Outer, Refract, Mix, Transpose, ExtractBits, InsertBits}
+use Rattle.functions.specs.declared.listed_rules.ListFunction.{ListFunction}
+use Rattle.functions.specs.declared.listed_rules.ListFunction.the-variants.{Ldexp, Outer, Refract, Mix, Transpose, ExtractBits, InsertBits}
 use Rattle.regular.specs.declared.regular.Regular.{Regular}
 use Rattle.calls.proofs.Callables.{callable?, callable-of}
 use Rattle.functions.proofs.Places.{few-listed}
-use Rattle.functions.proofs.Database.{each-number, few-rules, some-rules}
+use Rattle.functions.proofs.Database.{each-number, few-rules, short-rules}
+use Rattle.regular.proofs.Regulars.{known-accepted}
+use Rattle.calls.proofs.ListCalls.{held-list}
 use Rattle.lists.proofs.Expansions.{signatures-of, valid-of}
 
 -- ---- Regular sets
@@ -34,7 +39,6 @@ use Rattle.lists.proofs.Expansions.{signatures-of, valid-of}
 abbrev sound : FunctionSet → Bool
 sound (set.Regular r) = callable? r
 sound (set.List l) = true
-sound set.Unknown = true
 
 pub callable : (f : ℕ) (r : Regular) → functionSetOf f ≡ set.Regular r → Callable r
 unfolding functionSets bits codesOf allConclude concludedOf predeclaredCode emptySet?
@@ -44,12 +48,18 @@ pub regular-listing : (f : ℕ) (r : Regular) → functionSetOf f ≡ set.Regula
 unfolding listingOf
 regular-listing f r e = ap rulesIn e
 
-pub regular-few : (f : ℕ) (r : Regular) → functionSetOf f ≡ set.Regular r → length (regularRules r) ≤ 63
-regular-few f r e = subst (λ (rs : List Signature). length rs ≤ 63) (regular-listing f r e) (few-rules f)
+-- the List that it expands to
+pub regular-list : (f : ℕ) (r : Regular) → functionSetOf f ≡ set.Regular r → (l : ListAnswer) → listPaper l ≡ expanded r → l .list ≡ listOf (listingOf f)
+unfolding expanded
+regular-list f r e l p =
+    let able = callable f r e in
+    let few : length (regularRules r) ≤ mostRules = subst (λ (rs : List Signature). length rs ≤ mostRules) (regular-listing f r e) (few-rules f) in
+    held-list (l .answer) (l .list) (listOf (regularRules r))
+    (p ∙ simp (known-accepted r (able .known), le-leb _ _ few, able .concludes)) ∙ ap listOf (sym (regular-listing f r e))
 
 -- ---- Lists: each is a List that was tested, and its rules, all of them members, are those of its function
 
-pub short-listed : (l : Listed) → every short? (listedRules l) ≡ true
+pub short-listed : (l : ListFunction) → every short? (listedRules l) ≡ true
 unfolding listedRules floatScalars concreteFloatScalars concreteIntScalars vectorSizes scalarOrVecn
 short-listed Ldexp = refl
 short-listed Outer = refl
@@ -59,13 +69,13 @@ short-listed Transpose = refl
 short-listed ExtractBits = refl
 short-listed InsertBits = refl
 
-pub listed-valid : (l : Listed) → Valid (listOf (listedRules l))
+pub listed-valid : (l : ListFunction) → Valid (listOf (listedRules l))
 listed-valid l = valid-of (listedRules l) (short-listed l) (few-listed l)
 
-pub listed-signatures : (l : Listed) → signatures (listOf (listedRules l)) ≡ listedRules l
+pub listed-signatures : (l : ListFunction) → signatures (listOf (listedRules l)) ≡ listedRules l
 listed-signatures l = signatures-of (listedRules l) (short-listed l)
 
-some-listed : (l : Listed) → 0 < length (listedRules l)
+pub some-listed : (l : ListFunction) → 0 < length (listedRules l)
 unfolding listedRules floatScalars concreteFloatScalars concreteIntScalars vectorSizes vector matrix scalarOrVecn
 some-listed Ldexp = omega arith
 some-listed Outer = omega arith
@@ -75,19 +85,26 @@ some-listed Transpose = omega arith
 some-listed ExtractBits = omega arith
 some-listed InsertBits = omega arith
 
-whole : (l : Listed) → Full (listOf (listedRules l))
+whole : (l : ListFunction) → Full (listOf (listedRules l))
 unfolding listOf
-whole l = record { valid = listed-valid l; some = some-listed l; all = refl }
+whole l = record { valid = listed-valid l; all = refl }
 
-pub full : (l : Listed) (list : lists.List) → list ≡ listOf (listedRules l) → Full list
+pub full : (l : ListFunction) (list : lists.List) → list ≡ listOf (listedRules l) → Full list
 full l list e = subst (λ (x : lists.List). Full x) (sym e) (whole l)
 
-pub list-listing : (f : ℕ) (l : Listed) (list : lists.List) → functionSetOf f ≡ set.List l → list ≡ listOf (listedRules l) → signatures list ≡ listingOf f
+pub listed-listing : (f : ℕ) (l : ListFunction) → functionSetOf f ≡ set.List l → listingOf f ≡ listedRules l
 unfolding listingOf
-list-listing f l list e q = ap signatures q ∙ listed-signatures l ∙ sym (ap rulesIn e)
+listed-listing f l e = ap rulesIn e
 
--- ---- no set is missing
+pub list-listing : (f : ℕ) (l : ListFunction) (list : lists.List) → functionSetOf f ≡ set.List l → list ≡ listOf (listedRules l) → signatures list ≡ listingOf f
+list-listing f l list e q = ap signatures q ∙ listed-signatures l ∙ sym (listed-listing f l e)
 
-pub never-unknown : (f : ℕ) → f < functionCount → functionSetOf f ≡ set.Unknown → ⊥
-unfolding listingOf
-never-unknown f h e = let n : 0 < length (listingOf f) = some-rules f h in let z : length (listingOf f) ≡ 0 = ap (λ (s : FunctionSet). length (rulesIn s)) e in omega arith
+-- ---- the List of any function's rules
+
+-- it holds them, all of them members
+pub listed-of : (f : ℕ) → signatures (listOf (listingOf f)) ≡ listingOf f
+listed-of f = signatures-of (listingOf f) (short-rules f)
+
+pub full-of : (f : ℕ) → Full (listOf (listingOf f))
+unfolding listOf
+full-of f = record { valid = valid-of (listingOf f) (short-rules f) (few-rules f); all = refl }

@@ -3,7 +3,7 @@ use mathlib.Core.Path.{_≡_, refl, sym, ap, _∙_, subst⁻¹}
 use mathlib.Core.Bool.{Bool, true, false}
 use mathlib.Core.List as L
 use mathlib.Core.List.{[], _∷_, map}
-use Prim.Native.Nat.{ℕ, zero, suc, _-_, _/_, _^_, _<_}
+use Prim.Native.Nat.{ℕ, suc, _-_, _/_, _^_, _<_}
 use native.Mathlib.Omega.{arith}
 use lib.Dec.{eqb}
 use lib.ListN.{length}
@@ -12,17 +12,17 @@ use borrow.Author.Tests.{eqb-true, eqb-false}
 use Rattle.scalars.specs.Mask.{choose, consIf, odd, select, countFrom, bits, maskOf}
 use Rattle.rules.specs.Signature.{Signature}
 use Rattle.lists.specs.Entry.{Entry, number}
-use Rattle.calls.specs.Choice.{chosen, first}
+use Rattle.calls.specs.Choice.{first}
 use Rattle.lists.specs.List.{signatures, listing, entries}
-use Rattle.lists.specs.private.Tested.{Valid}
 use Rattle.calls.specs.Call.{membersOf}
-use Rattle.calls.specs.private.CallSets.{maskAnswer, Full}
+use Rattle.calls.specs.private.CallSets.{Full}
+use Rattle.calls.specs.private.Steps.{maskAnswer}
 use Rattle.scalars.specs.Paper.{accepted, refusal}
 use Rattle.lists.specs.declared.list.List.{List}
 use Rattle.scalars.proofs.Bits.{mask-bits}
 use Rattle.lists.proofs.Entries.{number-length}
-use Rattle.lists.proofs.Lists.{valid-length, entries-none, entries-first}
-use Rattle.scalars.proofs.Masks.{select-none}
+use Rattle.lists.proofs.Lists.{valid-length}
+use Rattle.scalars.proofs.Masks.{select-none, select-turn}
 use Rattle.scalars.proofs.Meets.{select-ones}
 use Rattle.calls.proofs.Narrowing.{Some}
 
@@ -53,30 +53,23 @@ pub mask-entries : (rs : L.List Signature) (m : ℕ) → m < 2 ^ length rs → m
 unfolding bits
 mask-entries rs m h = ap maskOf (indices 0 rs m) ∙ mask-bits (length rs) m h
 
--- a mask that picks some entry is not 0
-pub members-some : (xs : L.List Entry) (m : ℕ) → Some (select xs m) → 0 < m
-members-some xs zero f =
-    let e : first [] ≡ chosen (f .0) (f .1) = sym (ap first (select-none xs)) ∙ f .2 in
-    let z : _≡_ {A = ℕ} 0 1 = cc in
-    absurd (omega arith)
-members-some xs (suc m) f = omega arith
-
-module _ (l : List) (valid : Valid l) where
-  pub left-some : (l .members ≡ 0 → ⊥) → Some (entries l)
-  left-some h = (_, _, ap first (entries-first l valid (omega arith)))
+module _ (rs : L.List Signature) (m : ℕ) (within : m < 2 ^ length rs) where
+  -- a mask that is not 0 picks some entry
+  pub picks-some : (m ≡ 0 → ⊥) → Some (select (number 0 rs) m)
+  picks-some h =
+      let n = number-length 0 rs in
+      let d : Entry = record { index = 0; rule = record { arguments = []; result = 0 } } in
+      (_, _, ap first (select-turn d (number 0 rs) (length (number 0 rs)) m (omega arith) (omega arith) (subst⁻¹ (λ (k : ℕ). m < 2 ^ k) n within)))
 
   -- the mask of what is left, or refusal 1
-  pub left-members : maskAnswer (l .members) ≡ membersOf (entries l)
-  unfolding maskAnswer entries
-  left-members = go (eqb (l .members) 0) refl
+  pub picked-members : maskAnswer m ≡ membersOf (select (number 0 rs) m)
+  unfolding maskAnswer
+  picked-members = go (eqb m 0) refl
     where
-      within : l .members < 2 ^ length (signatures l)
-      within = subst⁻¹ (λ (n : ℕ). l .members < 2 ^ n) (valid-length l valid) (valid .within)
-
-      some : (s : L.List Entry) → Some s → maskOf (map (λ (x : Entry). x .index) s) ≡ l .members → accepted (l .members ∷ []) ≡ membersOf s
+      some : (s : L.List Entry) → Some s → maskOf (map (λ (x : Entry). x .index) s) ≡ m → accepted (m ∷ []) ≡ membersOf s
       some [] f e = let z : _≡_ {A = ℕ} 0 1 = cc in absurd (omega arith)
-      some (x ∷ xs) f e = ap (λ (m : ℕ). accepted (m ∷ [])) (sym e)
+      some (x ∷ xs) f e = ap (λ (n : ℕ). accepted (n ∷ [])) (sym e)
 
-      go : (b : Bool) → eqb (l .members) 0 ≡ b → choose b (refusal 1 0 (0 ∷ [])) (accepted (l .members ∷ [])) ≡ membersOf (entries l)
-      go true e = sym (ap membersOf (entries-none l (eqb-true _ _ e)))
-      go false e = some (entries l) (left-some (λ z. eqb-false (l .members) 0 e z)) (mask-entries (signatures l) (l .members) within)
+      go : (b : Bool) → eqb m 0 ≡ b → choose b (refusal 1 0 (0 ∷ [])) (accepted (m ∷ [])) ≡ membersOf (select (number 0 rs) m)
+      go true e = sym (ap (λ (n : ℕ). membersOf (select (number 0 rs) n)) (eqb-true _ _ e) ∙ ap membersOf (select-none (number 0 rs)))
+      go false e = some (select (number 0 rs) m) (picks-some (λ z. eqb-false m 0 e z)) (mask-entries rs m within)

@@ -2,41 +2,61 @@
 -- is left is the chosen one. Assumes nothing.
 use mathlib.Core.Path.{_≡_, refl, sym, ap, _∙_}
 use mathlib.Core.Bool.{Bool, true, false}
-use mathlib.Core.List.{List, map}
-use Prim.Native.Nat.{ℕ, _+_, _≤_, _<_, zero-le}
+use mathlib.Core.List.{List, [], map}
+use Prim.Native.Nat.{ℕ, zero, suc, _+_, _≤_, _<_, zero-le}
 use native.Mathlib.Omega.{arith}
 use lib.ListN.{length, getD, drop}
 use Rattle.scalars.specs.Mask.{bits}
 use Rattle.lists.specs.Entry.{Entry, number}
 use Rattle.calls.specs.Choice.{Narrowed, left, emptied, narrow, wrongCount, afterOperands, resolve}
 use Rattle.rules.specs.Verdict.{longest}
-use Rattle.regular.specs.Regular.{signatureFor, regularRules, emptySet?, narrowed, concreteSet}
+use Rattle.regular.specs.Regular.{pairs, codesOf, signatureFor, regularRules, emptySet?, narrowed, concreteSet}
 use Rattle.regular.specs.private.Tested.{Known}
 use Rattle.calls.specs.Call.{answered}
 use Rattle.calls.specs.private.CallSets.{Callable, preferredIn}
 use Rattle.scalars.specs.Paper.{refusal}
 use Rattle.lists.specs.ChosenPaper.{noChoice}
 use Rattle.regular.specs.declared.regular.Regular.{Regular}
+use Rattle.scalars.proofs.Bits.{bits-none}
 use Rattle.regular.proofs.Regulars.{codes-first, longest-arity, lowestCode}
 use Rattle.regular.proofs.RegularSteps.{narrowed-known, concrete-known}
 use Rattle.calls.proofs.Resolving.{narrow-out, narrow-on, narrow-end, count-wrong, count-right}
-use Rattle.calls.proofs.RegularResolving.{Holds, holds-all, holds-argument, holds-concrete, holds-preferred, holds-none, holds-some}
+use Rattle.calls.proofs.RegularResolving.{Holds, holds-all, holds-argument, holds-switched, holds-preferred, holds-none, holds-some}
 
 -- i operands are done: the masks hold what is left, and the steps to come are the rest of all steps
 abbrev pub Reached : Regular → List ℕ → Regular → ℕ → Type 0
 Reached set ts rest i =
     (i ≤ length ts) × Known rest × (s : List Entry) × Holds set rest s × (narrow (drop i ts) i s ≡ narrow ts 0 (number 0 (regularRules set)))
 
-module _ (set : Regular) (callable : Callable set) (ts : List ℕ) where
+module _ (set : Regular) (callable : Callable set) where
+  -- without an argument there is no rule
+  rules-none : set .arity ≡ 0 → regularRules set ≡ []
+  unfolding regularRules codesOf
+  rules-none e =
+      ap (λ (m : ℕ). map (signatureFor set) (pairs (bits 13 m) (bits 12 (set .scalars .0)))) (callable .none e)
+      ∙ ap (λ (ks : List ℕ). map (signatureFor set) (pairs ks (bits 12 (set .scalars .0)))) (bits-none 13)
+
+  pub some-arguments : 0 < length (regularRules set) → 1 ≤ set .arity
+  some-arguments some = go (set .arity) refl
+    where
+      go : (n : ℕ) → set .arity ≡ n → 1 ≤ set .arity
+      go zero e = absurd (omega (arith, ap length (rules-none e)))
+      go (suc n) e = omega arith
+
   pub rules-longest : longest (regularRules set) ≡ set .arity
   unfolding regularRules
-  rules-longest =
-      let f = codes-first set (callable .known) (callable .some) in
-      ap (λ (xs : List ℕ). longest (map (signatureFor set) xs)) (f .1) ∙ longest-arity set (lowestCode set) (f .0)
+  rules-longest = go (set .arity) refl
+    where
+      go : (n : ℕ) → set .arity ≡ n → longest (regularRules set) ≡ set .arity
+      go zero e = ap longest (rules-none e) ∙ sym e
+      go (suc n) e =
+          let f = codes-first set (callable .known) (callable .some (omega arith)) in
+          ap (λ (xs : List ℕ). longest (map (signatureFor set) xs)) (f .1) ∙ longest-arity set (lowestCode set) (f .0)
 
+module _ (set : Regular) (callable : Callable set) (ts : List ℕ) where
   pub regular-wrong : (switch : Bool) → (length ts ≡ set .arity → ⊥) → refusal 5 0 noChoice ≡ answered (resolve switch (regularRules set) ts)
   unfolding resolve
-  regular-wrong switch h = sym (ap answered (count-wrong (regularRules set) ts wrongCount _ (λ e. h (e ∙ rules-longest))))
+  regular-wrong switch h = sym (ap answered (count-wrong (regularRules set) ts wrongCount _ (λ e. h (e ∙ rules-longest set callable))))
 
   pub reached-start : Reached set ts set 0
   reached-start = (zero-le, callable .known, number 0 (regularRules set), holds-all set, refl)
@@ -48,7 +68,7 @@ module _ (set : Regular) (callable : Callable set) (ts : List ℕ) where
     unfolding resolve
     regular-right switch y e =
         ap (λ (x : Narrowed). answered (afterOperands switch x)) (sym e)
-        ∙ sym (ap answered (count-right (regularRules set) ts wrongCount _ (counted ∙ sym rules-longest)))
+        ∙ sym (ap answered (count-right (regularRules set) ts wrongCount _ (counted ∙ sym (rules-longest set callable))))
 
     module _ (rest : Regular) (i : ℕ) (reached : Reached set ts rest i) where
       -- the operand leaves none
@@ -82,7 +102,7 @@ module _ (set : Regular) (callable : Callable set) (ts : List ℕ) where
         pub reached-concrete : (switch : Bool) → switch ≡ true
             → preferredIn set (bits 13 (concreteSet rest .constructors .0)) (bits 12 (concreteSet rest .scalars .0)) ≡ answered (resolve switch (regularRules set) ts)
         reached-concrete switch on =
-            holds-preferred set (concreteSet rest) _ (holds-concrete set rest (reached .2) (callable .arguments) (reached .3)) callable ∙ regular-right true _ end
+            holds-switched set rest (reached .2) (reached .3) callable ∙ regular-right true _ end
             ∙ ap (λ (b : Bool). answered (resolve b (regularRules set) ts)) (sym on)
 
         pub concrete-left : Known (concreteSet rest)

@@ -1,38 +1,39 @@
 -- What is left of a Regular set, as two masks, stands for the entries that are left of its full listing: a step of the masks is a step
 -- of the entries, and the first of these has the index that the masks' ranks give. Assumes nothing.
-use mathlib.Core.Path.{_≡_, refl, sym, ap, ap₂, _∙_}
+use mathlib.Core.Path.{_≡_, refl, sym, ap, ap₂, _∙_, subst}
 use mathlib.Core.Bool.{Bool, true, false, not}
 use mathlib.Core.List.{List, [], _∷_, map}
-use Prim.Native.Nat.{ℕ, suc, _+_, _*_, _≤_, _<_}
+use Prim.Native.Nat.{ℕ, zero, suc, _+_, _*_, _^_, _≤_, _<_}
 use native.Mathlib.Nat.{zero-add}
 use native.Mathlib.Omega.{arith}
-use lib.Count.{trailingZeros}
-use lib.Dec.{eqb, ltb, lit≤}
+use lib.Dec.{ltb, lit≤}
 use lib.ListN.{length}
-use borrow.Author.Tests.{eqb-true}
-use Rattle.scalars.specs.Mask.{both, either, consIf, filter, every, bits}
-use Rattle.scalars.specs.Domain.{scalars, constructors, abstract?}
+use borrow.Author.Tests.{lt-ltb, ltb-true}
+use Rattle.scalars.specs.Mask.{choose, both, consIf, filter, every, bits}
+use Rattle.scalars.specs.Domain.{scalars, abstract?}
+use Rattle.scalars.specs.Scalar.{firstScalar, mostGeneral}
+use Rattle.types.specs.Domain.{constructors}
 use Rattle.rules.specs.Signature.{Signature, takes, concrete}
 use Rattle.lists.specs.Entry.{Entry, number, keep}
 use Rattle.calls.specs.Choice.{chosen, first}
 use Rattle.rules.specs.Rule.{ruleOf}
-use Rattle.regular.specs.Regular.{pairs, codesOf, signatureFor, regularRules, emptySet?, narrowed, concreteSet, allConclude, concludedOf, concluded?, ruleFrom, ruleFor, regularRule}
+use Rattle.regular.specs.Regular.{pairs, codesOf, signatureFor, regularRules, emptySet?, narrowed, concreteSet, allConclude, concludedOf, concluded?, ruleFrom, ruleFor}
 use Rattle.regular.proofs.RegularRules.{concludes}
 use Rattle.regular.specs.private.Tested.{Known}
 use Rattle.calls.specs.Call.{answered}
 use Rattle.calls.specs.private.CallSets.{Callable, placeIn, indexed, preferredIn}
-use Rattle.scalars.specs.Paper.{Paper, accepted, refusal}
+use Rattle.scalars.specs.Paper.{Paper, accepted, refusal, unused}
 use Rattle.rules.specs.RulePaper.{ruleValues}
 use Rattle.lists.specs.ChosenPaper.{noChoice}
 use Rattle.regular.specs.declared.regular.Regular.{Regular}
-use Rattle.scalars.proofs.Bits.{bits-first, bits-none}
+use Rattle.scalars.proofs.Bits.{bits-next, bits-none}
 use Rattle.scalars.proofs.Filters.{both-left, every-filter, filter-both, filter-map, filter-all}
 use Rattle.calls.proofs.Firsts.{keep-keep, keep-every}
 use Rattle.calls.proofs.Narrowing.{Some}
 use Rattle.calls.proofs.Positions.{rank-first, pairs-first}
 use Rattle.regular.proofs.RegularCodes.{shapes, numbers, reaches-pair, concrete-pair, narrowed-constructors, narrowed-scalars, codes-filter, every-select, bits-meet}
 use Rattle.regular.proofs.RegularSteps.{takes-each, concrete-each}
-use Rattle.regular.proofs.Regulars.{some-first, pairs-none, codes-none, known-rule, lowest-known}
+use Rattle.regular.proofs.Regulars.{some-first, pairs-none, codes-none}
 
 -- the entries left are those that pass a test which asks the constructor and the scalar apart, and the masks hold what passes either
 pub record Holds (set left : Regular) (s : List Entry) : Type 0 where
@@ -81,7 +82,7 @@ holds-argument i t set left s below h = record {
   scalars = narrowed-scalars t left ∙ ap (filter (numbers t)) (h .scalars) ∙ filter-both (numbers t) (h .scalar) (bits 12 (set .scalars .0));
 }
 
-pub holds-concrete : (set left : Regular) (s : List Entry) → 1 ≤ set .arity → Holds set left s → Holds set (concreteSet left) (keep concrete s)
+holds-concrete : (set left : Regular) (s : List Entry) → 1 ≤ set .arity → Holds set left s → Holds set (concreteSet left) (keep concrete s)
 unfolding concreteSet
 holds-concrete set left s some h = record {
   test = λ r. both (h .test r) (concrete r);
@@ -173,34 +174,51 @@ module _ (set left : Regular) (s : List Entry) (h : Holds set left s) where
       let p = some-first left e in (
         _,
         _,
-        left-first _ _ (bits-first 16 13 (left .constructors .0) (lit≤ tt) (p .0) (known .constructors))
-            _ _ (bits-first 16 12 (left .scalars .0) (lit≤ tt) (p .1) (known .scalars)),
+        left-first _ _ (bits-next 16 13 (left .constructors .0) (lit≤ tt) (p .0) (known .constructors))
+            _ _ (bits-next 16 12 (left .scalars .0) (lit≤ tt) (p .1) (known .scalars)),
       )
+
+  -- of a set without constructors nothing is left
+  left-nothing : set .constructors .0 ≡ 0 → (ns : List ℕ) → preferredIn set (bits 13 (left .constructors .0)) ns ≡ answered (first (keep concrete s))
+  left-nothing e ns =
+      let c : bits 13 (left .constructors .0) ≡ [] =
+      h .constructors ∙ ap (λ (m : ℕ). filter (h .shape) (bits 13 m)) e ∙ ap (filter (h .shape)) (bits-none 13) in
+      ap (λ (ks : List ℕ). preferredIn set ks ns) c
+      ∙ sym (ap (λ (x : List Entry). answered (first (keep concrete x))) (left-none (ap (λ (ks : List ℕ). pairs ks (bits 12 (left .scalars .0))) c)))
+
+-- with the switch on, of what is concrete
+pub holds-switched : (set left : Regular) (s : List Entry) → Holds set left s → Callable set
+    → preferredIn set (bits 13 (concreteSet left .constructors .0)) (bits 12 (concreteSet left .scalars .0)) ≡ answered (first (keep concrete s))
+unfolding concreteSet
+holds-switched set left s h callable = go (set .arity) refl
+  where
+    go : (n : ℕ) → set .arity ≡ n → preferredIn set (bits 13 (concreteSet left .constructors .0)) (bits 12 (concreteSet left .scalars .0)) ≡ answered (first (keep concrete s))
+    go zero e = left-nothing set left s h (callable .none e) _
+    go (suc n) e = holds-preferred set (concreteSet left) (keep concrete s) (holds-concrete set left s (omega arith) h) callable
 
 -- ---- the preferred rule of masks
 
-pub preferred-none : (set left : Regular) → emptySet? left ≡ true → refusal 1 0 noChoice ≡ preferredIn set (bits 13 (left .constructors .0)) (bits 12 (left .scalars .0))
-unfolding emptySet?
-preferred-none set left e = go (eqb (left .constructors .0) 0) (eqb (left .scalars .0) 0) refl refl e
-  where
-    either-way : (ks : List ℕ) → preferredIn set ks [] ≡ refusal 1 0 noChoice
-    either-way [] = refl
-    either-way (k ∷ ks) = refl
+-- the lowest scalar, as `most_general_scalar` answers it
+module _ (m : ℕ) (known : m < 2 ^ 12) where
+  first-is : firstScalar (bits 12 m) ≡ mostGeneral m
+  unfolding mostGeneral
+  first-is = sym (ap (λ (b : Bool). choose b (firstScalar (bits 12 m)) (refusal 7 0 (unused ∷ []))) (lt-ltb m (2 ^ 12) known))
 
-    go : (x y : Bool) → eqb (left .constructors .0) 0 ≡ x → eqb (left .scalars .0) 0 ≡ y → either x y ≡ true
-        → refusal 1 0 noChoice ≡ preferredIn set (bits 13 (left .constructors .0)) (bits 12 (left .scalars .0))
-    go true y a b f = sym (ap (λ (ks : List ℕ). preferredIn set ks (bits 12 (left .scalars .0))) (ap (bits 13) (eqb-true _ _ a) ∙ bits-none 13))
-    go false true a b f = sym (ap (preferredIn set (bits 13 (left .constructors .0))) (ap (bits 12) (eqb-true _ _ b) ∙ bits-none 12) ∙ either-way (bits 13 (left .constructors .0)))
-    go false false a b f = let z : _≡_ {A = ℕ} 0 1 = cc in absurd (omega arith)
+  pub scalar-none : {n p : ℕ} {vs : List ℕ} → mostGeneral m ≡ refusal n p vs → bits 12 m ≡ []
+  scalar-none {n} {p} {vs} e = go (bits 12 m) (first-is ∙ e)
+    where
+      go : (ks : List ℕ) → firstScalar ks ≡ refusal n p vs → ks ≡ []
+      go [] f = refl
+      go (k ∷ ks) f = let z : _≡_ {A = ℕ} 0 1 = cc in absurd (omega arith)
 
-pub preferred-some : (set left : Regular) → Known set → Known left → emptySet? left ≡ false
-    → indexed (placeIn set (trailingZeros 16 (left .constructors .0)) (trailingZeros 16 (left .scalars .0)))
-    (regularRule (trailingZeros 16 (left .constructors .0) * 12 + trailingZeros 16 (left .scalars .0)) set)
-    ≡ preferredIn set (bits 13 (left .constructors .0)) (bits 12 (left .scalars .0))
-preferred-some set left whole known e =
-    let p = some-first left e in
-    let l = lowest-known left known e in
-    let k = trailingZeros 16 (left .constructors .0) in
-    let s = trailingZeros 16 (left .scalars .0) in
-    ap (indexed (placeIn set k s)) (known-rule set (k * 12 + s) whole (omega (arith, l .0, l .1)))
-    ∙ sym (ap₂ (preferredIn set) (bits-first 16 13 (left .constructors .0) (lit≤ tt) (p .0) (known .constructors)) (bits-first 16 12 (left .scalars .0) (lit≤ tt) (p .1) (known .scalars)))
+  pub scalar-some : {k : ℕ} → mostGeneral m ≡ accepted (k ∷ []) → (k < 12) × (rest : List ℕ) × (bits 12 m ≡ k ∷ rest)
+  unfolding bits
+  scalar-some {k} e = go (bits 12 m) (first-is ∙ e) (every-select (λ s. ltb s 12) scalars m refl)
+    where
+      go : (ks : List ℕ) → firstScalar ks ≡ accepted (k ∷ []) → every (λ s. ltb s 12) ks ≡ true → (k < 12) × (rest : List ℕ) × (ks ≡ k ∷ rest)
+      go [] f all = let z : _≡_ {A = ℕ} 0 1 = cc in absurd (omega arith)
+      go (j ∷ ks) f all = let z : j ≡ k = cc in (subst (λ (n : ℕ). n < 12) z (ltb-true _ _ (both-left (ltb j 12) _ all)), ks, ap (λ (n : ℕ). n ∷ ks) z)
+
+pub none-preferred : (set : Regular) (ks : List ℕ) {ns : List ℕ} → ns ≡ [] → refusal 1 0 noChoice ≡ preferredIn set ks ns
+none-preferred set [] e = refl
+none-preferred set (k ∷ ks) e = sym (ap (preferredIn set (k ∷ ks)) e)

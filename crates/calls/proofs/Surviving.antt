@@ -1,67 +1,52 @@
 -- The survivors of a call, as a mask of indices: they are the entries of the listing that take every operand and pass the switch, in
--- order, and the chosen rule is the first of them. A call and its survivors are refused alike. Assumes nothing.
+-- order, and the chosen rule is the first of them. A call and its survivors are refused alike. What a choice names is there.
+-- Assumes nothing.
 use mathlib.Core.Path.{_≡_, refl, sym, ap, _∙_, subst}
 use mathlib.Core.Logic.{_↔_}
 use mathlib.Core.Bool.{Bool, true, false}
 use mathlib.Core.List.{List, [], _∷_, map}
 use mathlib.Core.Option.{some}
-use Prim.Native.Nat.{ℕ, zero, suc, _-_, _/_, _^_, _<_}
+use Prim.Native.Nat.{ℕ, _+_, _-_, _^_, _<_}
 use native.Mathlib.Omega.{arith}
-use lib.Dec.{eqb, ltb}
+use lib.Dec.{ltb}
 use lib.ListN.{length, getElem?}
 use lib.Seq.{take-all}
-use Rattle.scalars.specs.Mask.{choose, both, either, odd, select, sift, maskOf}
+use borrow.Author.Tests.{ltb-false}
+use Rattle.scalars.specs.Mask.{choose, either, select, sift, maskOf}
 use Rattle.rules.specs.Signature.{Signature}
 use Rattle.lists.specs.Entry.{Entry, number, keep}
-use Rattle.calls.specs.Choice.{Narrowed, left, emptied, narrow, wrongCount, first, concreteStep, afterOperands, resolve}
+use Rattle.calls.specs.Choice.{Narrowed, left, emptied, narrow, Choice, chosen, wrongCount, noneAfter, noneConcrete, first, concreteStep, afterOperands, resolve}
 use Rattle.rules.specs.Verdict.{longest}
-use Rattle.calls.specs.claims.Taking.{bit}
 use Rattle.calls.specs.Call.{answered, membersOf, survivorsAfter, survivorsOf}
 use Rattle.scalars.specs.Paper.{accepted, refusal}
 use Rattle.lists.specs.ChosenPaper.{noChoice}
 use Rattle.scalars.proofs.Masks.{sift-lt}
-use Rattle.scalars.proofs.Meets.{ones-half, ones-odd, select-ones}
-use Rattle.scalars.proofs.Sifts.{high, odd-low}
+use Rattle.scalars.proofs.Meets.{select-ones}
 use Rattle.lists.proofs.Entries.{number-length, select-keep}
-use Rattle.calls.proofs.Firsts.{keep-keep}
+use Rattle.calls.proofs.Firsts.{keep-keep, keep-every, first-is}
 use Rattle.calls.proofs.Narrowing.{takesFrom, permits, passesAll, Narrows, narrow-narrows, Some}
-use Rattle.calls.proofs.Choices.{concrete-keeps}
 use Rattle.calls.proofs.ListResolving.{mask-entries}
 
--- ---- the bits of a mask that picks what passes a test
-
-bit-sift : (p : Signature → Bool) (rs : List Signature) (i : ℕ) (r : Signature) → getElem? rs i ≡ some r → (m : ℕ) → bit i (sift p rs m) ≡ both (bit i m) (p r)
-unfolding sift
-bit-sift p [] i r e m = let z : _≡_ {A = ℕ} 0 1 = cc in absurd (omega arith)
-bit-sift p (x ∷ rs) zero r e m =
-    let f : x ≡ r = cc in
-    odd-low (sift p rs (m / 2)) (both (odd m) (p x)) ∙ ap (λ (s : Signature). both (odd m) (p s)) f
-bit-sift p (x ∷ rs) (suc i) r e m = ap (bit i) (high (sift p rs (m / 2)) (both (odd m) (p x))) ∙ bit-sift p rs i r e (m / 2)
-
-bit-ones : (rs : List Signature) (i : ℕ) (r : Signature) → getElem? rs i ≡ some r → bit i (2 ^ length rs - 1) ≡ true
-bit-ones [] i r e = let z : _≡_ {A = ℕ} 0 1 = cc in absurd (omega arith)
-bit-ones (x ∷ rs) zero r e = ap (λ (n : ℕ). eqb n 1) (ones-odd (length rs))
-bit-ones (x ∷ rs) (suc i) r e = ap (bit i) (ones-half (length rs)) ∙ bit-ones rs i r e
-
-bit-mask : (p : Signature → Bool) (rs : List Signature) (i : ℕ) (r : Signature) → getElem? rs i ≡ some r → bit i (sift p rs (2 ^ length rs - 1)) ≡ p r
-bit-mask p rs i r e = bit-sift p rs i r e (2 ^ length rs - 1) ∙ ap (λ (b : Bool). both b (p r)) (bit-ones rs i r e)
+concrete-keeps : (switch : Bool) (s : List Entry) → concreteStep switch s ≡ keep (permits switch) s
+concrete-keeps false s = sym (keep-every s)
+concrete-keeps true s = refl
 
 module _ (switch : Bool) (rules : List Signature) (ts : List ℕ) where
   -- the entries that take every operand and pass the switch
   abbrev pub surviving : List Entry
   surviving = keep (passesAll switch ts) (number 0 rules)
 
+  -- the mask of those that pass
+  abbrev pub mask : ℕ
+  mask = sift (passesAll switch ts) rules (2 ^ length rules - 1)
+
   -- a mask that picks them, and the choice among them
   pub record Surviving (m : ℕ) : Type 0 where
+    pub picks : m ≡ mask
     pub within : m < 2 ^ length rules
-    pub bits : (i : ℕ) (r : Signature) → getElem? rules i ≡ some r → bit i m ≡ passesAll switch ts r
     pub members : select (number 0 rules) m ≡ surviving
     pub some : Some surviving
     pub choice : resolve switch rules ts ≡ first surviving
-
-  -- the mask of those that pass
-  abbrev mask : ℕ
-  mask = sift (passesAll switch ts) rules (2 ^ length rules - 1)
 
   mask-picks : select (number 0 rules) mask ≡ surviving
   mask-picks =
@@ -74,7 +59,8 @@ module _ (switch : Bool) (rules : List Signature) (ts : List ℕ) where
       ap (λ (s : List Entry). maskOf (map (λ (x : Entry). x .index) s)) (sym mask-picks)
       ∙ mask-entries rules mask (sift-lt (passesAll switch ts) rules (2 ^ length rules - 1) refl)
 
-  left-is : (s : List Entry) → s ≡ keep (takesFrom 0 ts) (number 0 rules) → concreteStep switch s ≡ surviving
+  -- what the argument steps leave, after the concrete-only step
+  pub left-is : (s : List Entry) → s ≡ keep (takesFrom 0 ts) (number 0 rules) → concreteStep switch s ≡ surviving
   left-is s e =
       ap (concreteStep switch) e ∙ concrete-keeps switch (keep (takesFrom 0 ts) (number 0 rules)) ∙ keep-keep (takesFrom 0 ts) (permits switch) (number 0 rules)
 
@@ -100,8 +86,8 @@ module _ (switch : Bool) (rules : List Signature) (ts : List ℕ) where
       go false c f =
           let h = after-members m (narrow ts 0 (number 0 rules)) (narrow-narrows ts 0 (number 0 rules)) f in
           record {
+            picks = h .0;
             within = subst (λ (n : ℕ). n < 2 ^ length rules) (sym (h .0)) (sift-lt (passesAll switch ts) rules (2 ^ length rules - 1) refl);
-            bits = λ i r f. ap (bit i) (h .0) ∙ bit-mask (passesAll switch ts) rules i r f;
             members = ap (select (number 0 rules)) (h .0) ∙ mask-picks;
             some = h .1;
             choice = ap (λ (b : Bool). choose b wrongCount (afterOperands switch (narrow ts 0 (number 0 rules)))) c ∙ h .2;
@@ -127,3 +113,35 @@ module _ (switch : Bool) (rules : List Signature) (ts : List ℕ) where
           ↔ answered (choose b wrongCount (afterOperands switch (narrow ts 0 (number 0 rules)))) ≡ refusal n p noChoice
       go true = (λ e. cc, λ e. cc)
       go false = refused-after (narrow ts 0 (number 0 rules)) n p
+
+  -- ---- what a choice names is there
+
+  -- a rule at its index, where the number of operands is the longest rule's; one of the operands
+  abbrev pub There : Choice → Type 0
+  There (chosen i r) = (length ts ≡ longest rules) × (getElem? rules i ≡ some r)
+  There wrongCount = Unit
+  There (noneAfter k) = k < length ts
+  There noneConcrete = Unit
+
+  first-there : length ts ≡ longest rules → (s : List Entry) → s ≡ surviving → There (first s)
+  first-there l [] e = tt
+  first-there l (x ∷ xs) e = (l, first-is (passesAll switch ts) rules (x .index) (x .rule) (ap first (sym e)) .there)
+
+  narrowed-there : length ts ≡ longest rules → (y : Narrowed) → Narrows ts 0 (number 0 rules) y → There (afterOperands switch y)
+  narrowed-there l (left s) h = first-there l (concreteStep switch s) (left-is s (h .0))
+  narrowed-there l (emptied k) h =
+      let at : k ≡ 0 + h .0 = h .1 in
+      let lt : h .0 < length ts = h .2 in
+      omega arith
+
+  pub resolve-there : There (resolve switch rules ts)
+  unfolding resolve
+  resolve-there = go (ltb (length ts) (longest rules)) (ltb (longest rules) (length ts)) refl refl
+    where
+      go : (b c : Bool) → ltb (length ts) (longest rules) ≡ b → ltb (longest rules) (length ts) ≡ c
+          → There (choose (either b c) wrongCount (afterOperands switch (narrow ts 0 (number 0 rules))))
+      go true c e e′ = tt
+      go false true e e′ = tt
+      go false false e e′ =
+          narrowed-there (omega (arith, ltb-false (length ts) (longest rules) e, ltb-false (longest rules) (length ts) e′))
+          (narrow ts 0 (number 0 rules)) (narrow-narrows ts 0 (number 0 rules))

@@ -1,6 +1,6 @@
 -- What a reader must believe of this crate.
 pub mod Choice
 pub mod Call
+pub mod OutcomePaper
 pub mod SurvivorsPaper
 pub mod private
-pub mod claims

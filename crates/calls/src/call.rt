@@ -5,30 +5,38 @@
 // to end, and the index is computed from them; a List keeps its rules, and the mask of its members shrinks.
 
 ghost use mathlib.Core.Path.{_≡_};
-ghost use Prim.Native.Nat.{_≤_, _<_};
-ghost use lib.ListN.{length};
-ghost use Rattle.scalars.specs.Mask.{bits};
+ghost use Prim.Native.Nat.{_<_};
+ghost use Rattle.scalars.specs.Mask.{bits, select};
+ghost use Rattle.scalars.specs.Domain.{scalarCount};
+ghost use Rattle.types.specs.Domain.{constructorCount};
 ghost use Rattle.lists.specs.Entry.{number};
-ghost use Rattle.calls.specs.Choice.{narrow, resolve};
+ghost use Rattle.rules.specs.Verdict.{longest};
+ghost use Rattle.calls.specs.Choice.{first, resolve};
 ghost use Rattle.lists.specs.List.{signatures};
 ghost use Rattle.regular.specs.Regular.{regularRules};
 ghost use Rattle.regular.specs.private.Tested.{Known};
-ghost use Rattle.lists.specs.ChosenPaper.{chosenPaper};
+ghost use Rattle.calls.specs.OutcomePaper.{outcomePaper};
 ghost use Rattle.calls.specs.SurvivorsPaper.{survivorsPaper};
-ghost use Rattle.calls.specs.Call.{answered, survivorsOf, survivorsAfter};
-ghost use Rattle.calls.specs.private.CallSets.{maskAnswer, Callable, Full, rank, placeIn, preferredIn};
+ghost use Rattle.calls.specs.Call.{answered};
+ghost use Rattle.calls.specs.private.CallSets.{Callable, Full, rank, placeIn, indexedRule, preferredIn};
+ghost use Rattle.calls.specs.private.Steps.{Within, maskAnswer, survivorsBy, Stepped, Placed};
+use crate::outcome::Outcome;
 use lists::Chosen;
-use lists::ChosenAnswer;
 use lists::List;
 use lists::RuleSet;
-use lists::expand;
 use lists::filter;
 use lists::longest;
 use regular::Regular;
 use rules::Keep;
 use rules::RuleAnswer;
+use scalars::BitNumber;
+use scalars::BitStep;
 use scalars::CountAnswer;
+use scalars::OneBitsIter;
 use scalars::Refusal;
+use scalars::Scalar;
+use scalars::ScalarAnswer;
+use types::Constructor;
 
 // The rules that a call leaves: bit k says that rule k of the function's full listing is one.
 pub enum Survivors {
@@ -36,21 +44,30 @@ pub enum Survivors {
     Refused(Refusal),
 }
 
-// The rule that a Regular set chooses. Refused 5 for a number of operands that is not its arity, 6 at the operand that leaves no rule,
-// then 1 where the concrete-only step leaves none.
-pub(crate) fn call_regular(set: Regular, operands: &[u8], switch: bool) -> ChosenAnswer
+// What the steps of a call leave of a List.
+pub(crate) enum Steps {
+    // The number of operands is not the longest rule's.
+    WrongCount,
+    // No rule takes the operands up to this one.
+    NoneAfter(usize),
+    // The rules that take every operand and pass the switch; none where it dropped them all.
+    Left(RuleSet),
+}
+
+// The rule that a Regular set chooses: the first of what its steps leave.
+pub(crate) fn call_regular(set: Regular, operands: &[u8], switch: bool) -> Outcome
     requires { ⌜ Callable set ⌝ }
-    ensures { λ r. ⌜ chosenPaper r ≡ answered (resolve switch (regularRules set) (now (operands .entry))) ⌝ }
+    ensures { λ r. ⌜ outcomePaper r ≡ answered (resolve switch (regularRules set) (now (operands .entry))) ⌝ }
 {
     if operands.len() != (set.arity as usize) {
-        return ChosenAnswer::Refused(Refusal::WrongCount(0));
+        return Outcome::WrongCount;
     }
     let mut left = set;
     let mut i: usize = 0;
     while i < operands.len() {
         left = left.narrow(operands[i]);
         if left.holds_none() {
-            return ChosenAnswer::Refused(Refusal::NoRuleLeft(1 + i));
+            return Outcome::NoneAfter(i);
         }
         i += 1;
     }
@@ -60,108 +77,135 @@ pub(crate) fn call_regular(set: Regular, operands: &[u8], switch: bool) -> Chose
     preferred(set, left)
 }
 
-// The first of the rules that are left of a set, with its index in the set's full listing. Refused 1 where none is left.
-fn preferred(set: Regular, left: Regular) -> ChosenAnswer
+// The first of the rules that are left of a set: the lowest constructor over the lowest scalar.
+fn preferred(set: Regular, left: Regular) -> Outcome
     requires { ⌜ Known set × Known left ⌝ }
-    ensures { λ r. ⌜ chosenPaper r ≡ preferredIn set (bits 13 (left .constructors .0)) (bits 12 (left .scalars .0)) ⌝ }
+    ensures { λ r. ⌜ outcomePaper r ≡ preferredIn set (bits constructorCount (left .constructors .0)) (bits scalarCount (left .scalars .0)) ⌝ }
 {
-    if left.holds_none() {
-        return ChosenAnswer::Refused(Refusal::EmptySet(0));
+    match left.scalars.most_general_scalar() {
+        ScalarAnswer::Refused(_) => Outcome::NoneConcrete,
+        ScalarAnswer::Scalar(scalar) => match OneBitsIter(left.constructors.0 as u64).next() {
+            BitStep::Done => Outcome::NoneConcrete,
+            BitStep::Bit(bit, _) => {
+                let number = bit.number();
+                chosen(set, Constructor(number.0), scalar)
+            }
+        },
     }
-    let k = u16::trailing_zeros(left.constructors.0);
-    let s = u16::trailing_zeros(left.scalars.0);
-    let index = place(set, k, s);
-    match set.rule_of((k as u8) * 12 + (s as u8)) {
-        RuleAnswer::Refused(why) => ChosenAnswer::Refused(why),
-        RuleAnswer::Rule(rule) => ChosenAnswer::Rule(Chosen {
-            index: index,
+}
+
+// The rule of a constructor and a scalar, with its index in the set's full listing. A rule without a conclusion is none; each rule of a
+// function's set has one.
+fn chosen(set: Regular, constructor: Constructor, scalar: Scalar) -> Outcome
+    requires { ⌜ Known set × (constructor .0 < constructorCount) × (scalar .0 < scalarCount) ⌝ }
+    ensures { λ r. ⌜ outcomePaper r ≡ indexedRule set (constructor .0) (scalar .0) ⌝ }
+{
+    match set.rule_of(constructor, scalar) {
+        RuleAnswer::Refused(_) => Outcome::NoneConcrete,
+        RuleAnswer::Rule(rule) => Outcome::Rule(Chosen {
+            index: place(set, constructor, scalar),
             rule: rule,
         }),
     }
 }
 
 // The index of a constructor's and scalar's rule in a set's listing: the rows before its own, and its place in that row.
-fn place(set: Regular, k: u32, s: u32) -> u8
-    requires { ⌜ Known set × (k < 13) × (s < 12) ⌝ }
-    ensures { λ r. ⌜ r ≡ placeIn set k s ⌝ }
+fn place(set: Regular, constructor: Constructor, scalar: Scalar) -> u8
+    requires { ⌜ Known set × (constructor .0 < constructorCount) × (scalar .0 < scalarCount) ⌝ }
+    ensures { λ r. ⌜ r ≡ placeIn set (constructor .0) (scalar .0) ⌝ }
 {
-    let scalars = set.scalars.0;
-    let rows = below(set.constructors.0, k);
-    let row = u16::count_ones(scalars);
-    (rows * row + below(scalars, s)) as u8
+    let row = u16::count_ones(set.scalars.0);
+    let rows = below(
+        OneBitsIter(set.constructors.0 as u64),
+        BitNumber(constructor.0),
+    );
+    let before = below(OneBitsIter(set.scalars.0 as u64), BitNumber(scalar.0));
+    (rows * row + before) as u8
 }
 
-// How many members of a mask are below a number.
-fn below(mask: u16, k: u32) -> u32
-    requires { ⌜ k < 16 ⌝ }
-    ensures { λ r. ⌜ r ≡ rank k mask ⌝ }
+// How many bits of a mask come before the one of this number.
+fn below(mask: OneBitsIter, number: BitNumber) -> u32
+    requires { ⌜ number .0 < 64 ⌝ }
+    ensures { λ r. ⌜ r ≡ rank (number .0) (mask .0) ⌝ }
 {
-    u16::count_ones(mask % (1u16 << k))
+    u64::count_ones(mask.0 % (1u64 << number.0))
 }
 
-// The rule that a List chooses: the first that survives. Refused as `survivors_list` is.
-pub(crate) fn call_list(list: List, operands: &[u8], switch: bool) -> ChosenAnswer
+// The rule that a List chooses: the first of those that its steps leave.
+pub(crate) fn call_list(list: List, operands: &[u8], switch: bool) -> Outcome
     requires { ⌜ Full list ⌝ }
-    ensures { λ r. ⌜ chosenPaper r ≡ answered (resolve switch (signatures list) (now (operands .entry))) ⌝ }
+    ensures { λ r. ⌜ outcomePaper r ≡ answered (resolve switch (signatures list) (now (operands .entry))) ⌝ }
 {
-    match survivors_list(list, operands, switch) {
-        Survivors::Refused(why) => ChosenAnswer::Refused(why),
-        Survivors::Members(members) => {
-            let n = u64::trailing_zeros(members) as usize;
-            let rule = list.rules[n];
-            ChosenAnswer::Rule(Chosen {
-                index: n as u8,
+    match stepped(list, operands, switch) {
+        Steps::WrongCount => Outcome::WrongCount,
+        Steps::NoneAfter(operand) => Outcome::NoneAfter(operand),
+        Steps::Left(rules) => first_of(list, rules),
+    }
+}
+
+// The first of a List's rules that are left.
+fn first_of(list: List, rules: RuleSet) -> Outcome
+    requires { ⌜ Within list rules ⌝ }
+    ensures { λ r. ⌜ outcomePaper r ≡ answered (first (select (number 0 (signatures list)) (rules .0))) ⌝ }
+{
+    match OneBitsIter(rules.0).next() {
+        BitStep::Done => Outcome::NoneConcrete,
+        BitStep::Bit(bit, _) => {
+            let number = bit.number();
+            let rule = list.rule(number);
+            Outcome::Rule(Chosen {
+                index: number.0,
                 rule: rule,
             })
         }
     }
 }
 
-// The rules of a Regular set that survive a call, by the List that it expands to. Refused as `survivors_list` is.
-pub(crate) fn survivors_regular(set: Regular, operands: &[u8], switch: bool) -> Survivors
-    requires { ⌜ Callable set × (length (regularRules set) ≤ 63) ⌝ }
-    ensures { λ r. ⌜ survivorsPaper r ≡ survivorsOf switch (regularRules set) (now (operands .entry)) ⌝ }
-{
-    let expanded = expand(set);
-    let list = expanded.list;
-    survivors_list(list, operands, switch)
-}
-
-// The rules of a List that survive a call. Refused 5 for a number of operands that is not the longest rule's, 6 at the operand that
-// leaves no rule, then 1 where the concrete-only step leaves none.
-pub(crate) fn survivors_list(list: List, operands: &[u8], switch: bool) -> Survivors
+// What a call's steps leave of a List: each operand in turn leaves the rules that take it, then the switch those without an abstract
+// argument.
+pub(crate) fn stepped(list: List, operands: &[u8], switch: bool) -> Steps
     requires { ⌜ Full list ⌝ }
-    ensures { λ r. ⌜ survivorsPaper r ≡ survivorsOf switch (signatures list) (now (operands .entry)) ⌝ }
+    ensures { λ r. ⌜ Stepped switch list (now (operands .entry)) r ⌝ }
 {
-    match longest(list) {
-        CountAnswer::Refused(why) => Survivors::Refused(why),
-        CountAnswer::Count(most) => {
-            if operands.len() != (most as usize) {
-                return Survivors::Refused(Refusal::WrongCount(0));
-            }
-            taken(list, operands, switch)
-        }
+    if operands.len() != most_arguments(list) {
+        return Steps::WrongCount;
     }
-}
-
-// The rules of a List that take each operand in turn, and pass the switch.
-fn taken(list: List, operands: &[u8], switch: bool) -> Survivors
-    requires { ⌜ Full list ⌝ }
-    ensures { λ r. ⌜ survivorsPaper r ≡ survivorsAfter switch (narrow (now (operands .entry)) 0 (number 0 (signatures list))) ⌝ }
-{
     let mut left = RuleSet(list.members);
     let mut i: usize = 0;
     while i < operands.len() {
         left = filter(list, left, Keep::Argument(i, operands[i]));
         if left.0 == 0 {
-            return Survivors::Refused(Refusal::NoRuleLeft(1 + i));
+            return Steps::NoneAfter(i);
         }
         i += 1;
     }
     if switch {
-        return members(filter(list, left, Keep::Concrete));
+        return Steps::Left(filter(list, left, Keep::Concrete));
     }
-    members(left)
+    Steps::Left(left)
+}
+
+// The longest rule's number of arguments, 0 where there is no rule.
+fn most_arguments(list: List) -> usize
+    requires { ⌜ Full list ⌝ }
+    ensures { λ r. ⌜ r ≡ longest (signatures list) ⌝ }
+{
+    match longest(list) {
+        CountAnswer::Refused(_) => 0,
+        CountAnswer::Count(most) => most as usize,
+    }
+}
+
+// The rules that survive a call, by what its steps left of a List. Refused as a call by itself is.
+pub(crate) fn surviving(left: Steps) -> Survivors
+    requires { ⌜ Placed left ⌝ }
+    ensures { λ r. ⌜ survivorsPaper r ≡ survivorsBy left ⌝ }
+{
+    match left {
+        Steps::WrongCount => Survivors::Refused(Refusal::WrongCount(0)),
+        Steps::NoneAfter(operand) => Survivors::Refused(Refusal::NoRuleLeft(1 + operand)),
+        Steps::Left(rules) => members(rules),
+    }
 }
 
 // The members that are left. Refused 1 where none is.

@@ -6,6 +6,9 @@ use functions::rule_at;
 use rules::Rule;
 use rules::RuleAnswer;
 
+// The last number that an index can be.
+const LAST_INDEX: u8 = 255;
+
 fn main() {
     let mut function: u8 = 0;
     while function < FUNCTION_COUNT {
@@ -17,7 +20,7 @@ fn main() {
 // The rules of one function, up to the index that is refused.
 fn print_listing(function: u8) {
     let mut index: u8 = 0;
-    while index < 255 {
+    while index < LAST_INDEX {
         match rule_at(function, index) {
             RuleAnswer::Rule(rule) => print_rule(function, index, rule),
             RuleAnswer::Refused(_) => {

@@ -1,15 +1,13 @@
--- What stands at an offset where a tree's bytes stand, and how many bytes a tree has: at least two, and at most three for each of
--- its nodes, so that an expression within the limits has at most 192.
--- Assumes nothing.
+-- What stands at an offset where a tree's bytes stand; a tree has at least two. Assumes nothing.
 use mathlib.Core.Path.{_≡_, sym, ap, _∙_}
 use mathlib.Core.List.{List, [], _∷_, _++_}
-use Prim.Native.Nat.{ℕ, _+_, _*_, _≤_, _<_}
+use Prim.Native.Nat.{ℕ, _+_, _≤_, _<_}
 use native.Mathlib.Numerals.{add-one}
 use native.Mathlib.Omega.{arith}
 use native.Mathlib.Decide.{decLt}
-use lib.ListN.{length, getD, drop, length-append, drop-of-length-le}
+use lib.ListN.{length, getD, drop, drop-of-length-le}
 use lib.Seq.{drop-cons, drop-drop, drop-append-seam}
-use Rattle.expressions.specs.Tree.{Leaf, Tree, Trees, leaf, call, none, more, count, leafTag, callTag, bytesOf, bytesOfAll, nodes, nodesAll, mostNodes}
+use Rattle.expressions.specs.Tree.{Leaf, Tree, Trees, leaf, call, count, leafTag, callTag, bytesOf, bytesOfAll}
 
 -- a byte that is present stands in front of the bytes behind it
 pub head-at : (s : List ℕ) (at next : ℕ) → at < length s → next ≡ at + 1 → drop at s ≡ getD s at 0 ∷ drop next s
@@ -68,18 +66,3 @@ pub bytes-least : (e : Tree) → 2 ≤ length (bytesOf e)
 unfolding bytesOf
 bytes-least (leaf l) = omega arith
 bytes-least (call f es) = omega arith
-
-mutual
-  unfolding bytesOf nodes
-
-  pub bytes-most : (e : Tree) → length (bytesOf e) ≤ 3 * nodes e
-  bytes-most (leaf l) = omega arith
-  bytes-most (call f es) = omega (arith, bytes-most-all es)
-
-  pub bytes-most-all : (es : Trees) → length (bytesOfAll es) ≤ 3 * nodesAll es
-  bytes-most-all none = omega arith
-  bytes-most-all (more e es) = omega (arith, length-append (bytesOf e) (bytesOfAll es), bytes-most e, bytes-most-all es)
-
--- three bytes for each of 64 nodes
-abbrev pub mostBytes : ℕ
-mostBytes = 3 * mostNodes

@@ -1,10 +1,5 @@
--- The laws that the proofs of the functions cite, and the theorem AcceptsExactly.
+-- The laws that the proofs of the functions cite, here and in the second pass.
 pub mod Bytes
 pub mod Sound
-pub mod Complete
-pub mod AcceptsExactly
-pub mod OneTree
-pub mod FirstBytes
 pub mod Answers
 pub mod Steps
-pub mod Papers

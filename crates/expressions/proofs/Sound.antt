@@ -1,31 +1,30 @@
 -- Whatever the first pass reads is there: the bytes from a node's offset to the offset behind it are those of the tree that is
--- handed back, every code in it is known, and it keeps to the limits on nodes and levels.
+-- handed back, every code in it is known, and it keeps to the limit on nodes.
 -- Assumes nothing.
-use mathlib.Core.Path.{_≡_, refl, sym, ap, ap₂, _∙_}
+use mathlib.Core.Path.{_≡_, refl, sym, ap, ap₂, subst, _∙_}
 use mathlib.Core.Bool.{Bool, true, false}
-use mathlib.Core.List.{List, _∷_, _++_, append-assoc}
+use mathlib.Core.List.{List, _∷_, _++_, append-assoc, append-nil}
 use Prim.Native.Nat.{ℕ, zero, suc, _+_, _≤_, _<_}
 use native.Mathlib.Omega.{arith}
-use borrow.Author.Tests.{leb-true, ltb-true, eqb-true}
+use borrow.Author.Tests.{leb-true, ltb-true, ltb-false, eqb-true}
 use lib.Dec.{eqb, leb, ltb}
-use lib.ListN.{length, drop, length-append}
+use lib.ListN.{length, drop, length-append, drop-of-length-le}
 use Rattle.scalars.specs.Mask.{choose}
-use Rattle.expressions.specs.Tree.{Tree, Trees, call, more, count, bytesOf, bytesOfAll, nodes, nodesAll, mostNodes, lastLeaf, leafTag, callTag}
-use Rattle.expressions.specs.claims.Limits.{levels, levelsAll, Known, KnownAll}
-use Rattle.expressions.specs.Reading.{Reading, done, refused, demand, andThen, argsAt, present, byteAt, leafAt, callAt, taggedAt, nodeAt}
+use Rattle.expressions.specs.Tree.{Tree, Trees, call, more, count, bytesOf, bytesOfAll, nodes, nodesAll, mostNodes, deepest, lastLeaf, leafTag, callTag}
+use Rattle.expressions.specs.private.Known.{Known, KnownAll}
+use Rattle.expressions.specs.Reading.{Reading, done, refused, Expression, read, refusedAs, demand, andThen, argsAt, present, byteAt, leafAt, callAt, taggedAt, nodeAt, whole, expressionOf}
 use Rattle.expressions.proofs.Bytes.{head-at}
 
 -- one argument, then those behind it
 abbrev pub followed : Reading Tree → (ℕ → ℕ → Reading Trees) → Reading Trees
 followed one others = andThen one (λ e next m. andThen (others next m) (λ es. done (more e es)))
 
--- the tree e has at most d levels, its bytes reach from `at` to `next`, and its nodes bring the number from n to m
+-- the bytes of the tree e reach from `at` to `next`, and its nodes bring the number from n to m
 pub record Found (functions : ℕ) (s : List ℕ) (d at n : ℕ) (e : Tree) (next m : ℕ) : Type 0 where
   pub text : drop at s ≡ bytesOf e ++ drop next s
   pub ends : next ≡ at + length (bytesOf e)
   pub inside : next ≤ length s
   pub known : Known functions e
-  pub low : levels e ≤ d
   pub counted : m ≡ n + nodes e
   pub few : m ≤ mostNodes
 
@@ -36,7 +35,6 @@ pub record FoundAll (functions : ℕ) (s : List ℕ) (d left at n : ℕ) (es : T
   pub ends : next ≡ at + length (bytesOfAll es)
   pub inside : next ≤ length s
   pub known : KnownAll functions es
-  pub low : levelsAll es ≤ d
   pub counted : m ≡ n + nodesAll es
   pub few : m ≤ mostNodes
 
@@ -70,7 +68,7 @@ module _ (functions : ℕ) (s : List ℕ) (d : ℕ) where
 
   in-front-sound : (left at n : ℕ) (e : Tree) (next m : ℕ) (others : Reading Trees) → Found functions s d at n e next m
       → SoundAll functions s d left next m others → SoundAll functions s d (suc left) at n (andThen others (λ es. done (more e es)))
-  unfolding count bytesOf nodes levels Known
+  unfolding count bytesOf nodes Known
   in-front-sound left at n e next m (refused number place) one rest = tt
   in-front-sound left at n e next m (done es end k) one rest = record {
     many = ap suc (rest .many);
@@ -78,7 +76,6 @@ module _ (functions : ℕ) (s : List ℕ) (d : ℕ) where
     ends = omega (arith, length-append (bytesOf e) (bytesOfAll es));
     inside = rest .inside;
     known = (one .known, rest .known);
-    low = omega arith;
     counted = omega arith;
     few = rest .few;
   }
@@ -90,14 +87,13 @@ module _ (functions : ℕ) (s : List ℕ) (d : ℕ) where
       in-front-sound left at n e next m (others next m) k (rest next m (k .inside) (k .few))
 
   args-sound : (node : ℕ → ℕ → Reading Tree) → Nodes node → (left : ℕ) → Others left (argsAt node left)
-  unfolding argsAt count bytesOf nodes levels Known
+  unfolding argsAt count bytesOf nodes Known
   args-sound node k zero at n here few = record {
     many = refl;
     text = refl;
     ends = omega arith;
     inside = here;
     known = tt;
-    low = omega arith;
     counted = omega arith;
     few = few;
   }
@@ -105,7 +101,7 @@ module _ (functions : ℕ) (s : List ℕ) (d : ℕ) where
 
   module _ (at n : ℕ) (here : at < length s) (few : n < mostNodes) where
     leaf-sound : byteAt s at ≡ leafTag → Sound functions s (suc d) at n (leafAt s at n)
-    unfolding leafAt bytesOf nodes levels Known
+    unfolding leafAt bytesOf nodes Known
     leaf-sound tag =
         demanded functions s (suc d) at n (present s (at + 1)) _ _ _ λ p.
         demanded functions s (suc d) at n (leb (byteAt s (at + 1)) lastLeaf) _ _ _ λ k.
@@ -115,7 +111,6 @@ module _ (functions : ℕ) (s : List ℕ) (d : ℕ) where
           ends = omega arith;
           inside = omega arith;
           known = leb-true _ _ k;
-          low = omega arith;
           counted = omega arith;
           few = omega arith;
         }
@@ -123,7 +118,7 @@ module _ (functions : ℕ) (s : List ℕ) (d : ℕ) where
     call-of-sound : byteAt s at ≡ callTag → byteAt s (at + 1) < functions → at + 2 < length s → (args : Reading Trees)
         → SoundAll functions s d (byteAt s (at + 2)) (at + 3) (n + 1) args
         → Sound functions s (suc d) at n (andThen args (λ es. done (call (byteAt s (at + 1)) es)))
-    unfolding bytesOf nodes levels Known
+    unfolding bytesOf nodes Known
     call-of-sound tag known h (refused number place) args = tt
     call-of-sound tag known h (done es next m) args =
         let number = head-at s (at + 2) (at + 3) h (omega arith) ∙ ap₂ _∷_ (sym (args .many)) (args .text) in
@@ -133,7 +128,6 @@ module _ (functions : ℕ) (s : List ℕ) (d : ℕ) where
           ends = omega arith;
           inside = args .inside;
           known = (known, args .known);
-          low = omega arith;
           counted = omega arith;
           few = args .few;
         }
@@ -166,3 +160,33 @@ module _ (functions : ℕ) (s : List ℕ) where
       demanded functions s (suc d) at n (present s at) _ _ _ λ p.
       demanded functions s (suc d) at n (ltb n mostNodes) _ _ _ λ f.
       tagged-sound functions s d at n (ltb-true _ _ p) (ltb-true _ _ f) (nodeAt functions s d) (node-sound d)
+
+-- ---- the whole
+
+-- an expression that is accepted: its bytes are all that there is
+pub record Spelt (functions : ℕ) (s : List ℕ) (e : Tree) : Type 0 where
+  pub text : s ≡ bytesOf e
+  pub known : Known functions e
+  pub few : nodes e ≤ mostNodes
+
+module _ (functions : ℕ) (s : List ℕ) where
+  abbrev Right : Expression → Type 0
+  Right (read e) = Spelt functions s e
+  Right (refusedAs number place) = Unit
+
+  nothing-left : (e : Tree) (at n : ℕ) → Found functions s deepest 0 0 e at n → (left : Bool) → present s at ≡ left
+      → Right (choose left (refusedAs 8 at) (read e))
+  nothing-left e at n k true p = tt
+  nothing-left e at n k false p = record {
+    text = k .text ∙ ap (λ l. bytesOf e ++ l) (drop-of-length-le s (ltb-false _ _ p)) ∙ append-nil (bytesOf e);
+    known = k .known;
+    few = omega (arith, k .counted, k .few);
+  }
+
+  whole-right : (r : Reading Tree) → Sound functions s deepest 0 0 r → Right (whole s r)
+  whole-right (refused number place) k = tt
+  whole-right (done e at n) k = nothing-left e at n k (present s at) refl
+
+  pub read-spelt : (e : Tree) → expressionOf functions s ≡ read e → Spelt functions s e
+  unfolding expressionOf
+  read-spelt e h = subst Right h (whole-right (nodeAt functions s deepest 0 0) (node-sound functions s deepest 0 0))

@@ -1,6 +1,5 @@
--- What the contracts and theorems of this crate say: expressions and their reading.
+-- What the contracts of this crate say: expressions and their reading.
 pub mod Tree
 pub mod Reading
 pub mod ReadPaper
 pub mod private
-pub mod claims

@@ -7,7 +7,7 @@ use mathlib.Core.List.{List, [], _∷_}
 use lib.Dec.{eqb, leb, ltb}
 use lib.ListN.{length, getD}
 use Rattle.scalars.specs.Mask.{choose}
-use Rattle.scalars.specs.Paper.{Paper, accepted, refusal}
+use Rattle.scalars.specs.Paper.{Paper, accepted, refusal, unused}
 use Rattle.expressions.specs.Tree.{Tree, Trees, leaf, call, none, more, nodes, mostNodes, deepest, lastLeaf, leafTag, callTag}
 
 -- what was read, a node or a call's arguments, the offset behind it and the number of nodes read so far; or the first fault, by its
@@ -87,4 +87,4 @@ expressionOf functions s = whole s (nodeAt functions s deepest 0 0)
 -- its answer: how many nodes there are, or the fault
 abbrev pub readOf : Expression → Paper
 readOf (read e) = accepted (nodes e ∷ [])
-readOf (refusedAs number place) = refusal number place (255 ∷ [])
+readOf (refusedAs number place) = refusal number place (unused ∷ [])

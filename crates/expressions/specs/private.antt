@@ -1,2 +1,3 @@
--- What the private functions of this crate promise: no reader of the public promises needs it.
+-- What private functions require and promise, here and in the second pass: no reader of the public promises needs it.
 pub mod Step
+pub mod Known

@@ -1,5 +1,5 @@
 -- The database of functions: each fact below is computed over all 79 by one test. Every rule has at most four arguments, and as many as
--- the other rules of its function; arguments are value types and results are types; a listing has at least one rule and at most 63;
+-- the other rules of its function; a listing has at least one rule and at most 63;
 -- no rule of a Regular set lacks a conclusion. Assumes nothing.
 use mathlib.Core.Path.{_≡_, refl, sym, ap, _∙_, subst}
 use mathlib.Core.Bool.{Bool, true, false, not}
@@ -8,63 +8,61 @@ use mathlib.Core.Option.{some}
 use Prim.Native.Nat.{ℕ, zero, suc, _+_, _^_, _≤_, _<_}
 use native.Mathlib.Omega.{arith}
 use lib.Dec.{eqb, leb, ltb}
-use lib.ListN.{length, take, drop, getElem?, replicate, List·getD-eq-default}
+use lib.ListN.{length, take, drop, getD, getElem?, replicate, List·getD-eq-default}
 use lib.Seq.{take-all}
-use borrow.Author.Tests.{leb-true, ltb-true, ltb-false, eqb-true}
-use Rattle.scalars.specs.Mask.{choose, both, every, digit, bits}
-use Rattle.scalars.specs.Domain.{value?, known?}
+use borrow.Author.Tests.{leb-true, ltb-true, ltb-false, eqb-true, lt-ltb}
+use Rattle.scalars.specs.Mask.{both, every, digit, bits}
 use Rattle.rules.specs.Signature.{Signature}
 use Rattle.rules.specs.Verdict.{longest}
 use Rattle.types.specs.TypeCode.{predeclaredCode}
-use Rattle.regular.specs.SetPaper.{noSet}
-use Rattle.regular.specs.Regular.{regularRules, codesOf, concludedOf, allConclude}
+use Rattle.regular.specs.Regular.{emptyRegular, regularRules, codesOf, concludedOf, allConclude}
 use Rattle.functions.specs.Sequences.{floatScalars, concreteFloatScalars, concreteIntScalars, vectorSizes, vector, matrix, scalarOrVecn}
 use Rattle.rules.specs.Rule.{mostArguments}
 use Rattle.rules.proofs.Records.{short?}
 use Rattle.functions.specs.ListedRules.{listedRules}
-use Rattle.functions.specs.Functions.{functionCount, functionSets, functionSetOf, setOfFunction, rulesIn, listingOf, ruleIn, ruleAt}
 use Rattle.functions.specs.FunctionPaper.{functionPaper}
+use Rattle.functions.specs.Functions.{functionCount, functionSets, functionSetOf, setOfFunction, rulesIn, listingOf, ruleIn, ruleAt}
 use Rattle.functions.specs.private.Built.{Built}
 use Rattle.functions.specs.declared.mathfunction.FunctionSet.{FunctionSet}
 use Rattle.functions.specs.declared.mathfunction.FunctionSet.the-variants as set
-use Rattle.scalars.specs.Paper.{refusal}
-use Rattle.rules.specs.RulePaper.{noRule}
 use Rattle.regular.specs.declared.regular.Regular.{Regular}
 use Rattle.scalars.proofs.Prefixes.{every-at, both-true}
 use Rattle.functions.proofs.Runs.{run-at}
 
 -- ---- a set by its function's number
 
--- n functions in turn have one set
-pub sets-from : (k n : ℕ) {s : FunctionSet} {f : ℕ} → take n (drop k functionSets) ≡ replicate n s → k ≤ f → f < k + n → functionSetOf f ≡ s
+-- the set of no function
+abbrev none : FunctionSet
+none = set.Regular emptyRegular
+
+-- the set of one function
+pub set-at : (k : ℕ) {f : ℕ} → f ≡ k → functionPaper (getD functionSets k none) ≡ setOfFunction f
 unfolding functionSetOf
-sets-from k n e l h = run-at set.Unknown functionSets k n e l h
+set-at k h = sym (ap (λ (i : ℕ). functionPaper (getD functionSets i none)) h)
 
-pub no-function : {f : ℕ} → functionCount ≤ f → functionSetOf f ≡ set.Unknown
+-- n functions in turn have one set
+pub sets-from : (k n : ℕ) {f : ℕ} → take n (drop k functionSets) ≡ replicate n (getD functionSets k none) → k ≤ f → f < k + n
+    → functionPaper (getD functionSets k none) ≡ setOfFunction f
+unfolding functionSetOf
+sets-from k n e l h = ap functionPaper (sym (run-at none functionSets k n e l h))
+
+pub no-function : {f : ℕ} → functionCount ≤ f → functionSetOf f ≡ none
 unfolding functionSetOf functionSets
-no-function h = List·getD-eq-default functionSets set.Unknown h
-
-pub set-of : (f : ℕ) → functionPaper (functionSetOf f) ≡ setOfFunction f
-unfolding setOfFunction
-set-of f = go (ltb f functionCount) refl
-  where
-    go : (b : Bool) → ltb f functionCount ≡ b → functionPaper (functionSetOf f) ≡ choose b (functionPaper (functionSetOf f)) (refusal 7 0 (0 ∷ noSet))
-    go true h = refl
-    go false h = ap functionPaper (no-function (ltb-false f functionCount h))
+no-function h = List·getD-eq-default functionSets none h
 
 counted : length functionSets ≡ functionCount
 unfolding functionSets
 counted = refl
 
 -- what each set of the list passes, each function's set does
-each-function : (p : FunctionSet → Bool) → every p functionSets ≡ true → (f : ℕ) → f < functionCount → p (functionSetOf f) ≡ true
+pub each-function : (p : FunctionSet → Bool) → every p functionSets ≡ true → (f : ℕ) → f < functionCount → p (functionSetOf f) ≡ true
 unfolding functionSetOf
 each-function p e f h =
-    every-at set.Unknown p functionSets functionCount f (omega (arith, counted)) h
+    every-at none p functionSets functionCount f (omega (arith, counted)) h
     (ap (every p) (take-all functionCount functionSets (omega (arith, counted))) ∙ e)
 
--- and what also no set passes, the set of every number does
-pub each-number : (p : FunctionSet → Bool) → every p functionSets ≡ true → p set.Unknown ≡ true → (f : ℕ) → p (functionSetOf f) ≡ true
+-- and what also the empty set passes, the set of every number does
+pub each-number : (p : FunctionSet → Bool) → every p functionSets ≡ true → p none ≡ true → (f : ℕ) → p (functionSetOf f) ≡ true
 each-number p e u f = go (ltb f functionCount) refl
   where
     go : (b : Bool) → ltb f functionCount ≡ b → p (functionSetOf f) ≡ true
@@ -75,15 +73,15 @@ each-number p e u f = go (ltb f functionCount) refl
 
 -- an unknown function has no rules
 pub unknown-none : (f : ℕ) → functionCount ≤ f → listingOf f ≡ []
-unfolding listingOf
+unfolding listingOf regularRules codesOf bits
 unknown-none f h = ap rulesIn (no-function h)
 
 each-listing : (p : List Signature → Bool) → every (λ s. p (rulesIn s)) functionSets ≡ true → p [] ≡ true → (f : ℕ) → p (listingOf f) ≡ true
-unfolding listingOf
+unfolding listingOf regularRules codesOf bits
 each-listing p e u f = each-number (λ s. p (rulesIn s)) e u f
 
 -- at most four arguments, as a rule's record has fields for
-short-rules : (f : ℕ) → every short? (listingOf f) ≡ true
+pub short-rules : (f : ℕ) → every short? (listingOf f) ≡ true
 unfolding functionSets bits regularRules codesOf listedRules floatScalars concreteFloatScalars concreteIntScalars vectorSizes scalarOrVecn
 short-rules f = each-listing (every short?) refl refl f
 
@@ -110,17 +108,6 @@ alike-rules f = each-listing alike refl refl f
 pub one-length : (f i : ℕ) (r : Signature) → getElem? (listingOf f) i ≡ some r → length (r .arguments) ≡ longest (listingOf f)
 one-length f i r h = eqb-true _ _ (every-element (long (longest (listingOf f))) (listingOf f) (alike-rules f) i r h)
 
--- arguments are 0 to 155, results 0 to 180
-abbrev codesKnown : Signature → Bool
-codesKnown r = both (every value? (r .arguments)) (known? (r .result))
-
-known-rules : (f : ℕ) → every codesKnown (listingOf f) ≡ true
-unfolding functionSets bits regularRules codesOf concludedOf predeclaredCode listedRules floatScalars concreteFloatScalars concreteIntScalars vectorSizes vector matrix scalarOrVecn
-known-rules f = each-listing (every codesKnown) refl refl f
-
-pub result-known : (f i : ℕ) (r : Signature) → getElem? (listingOf f) i ≡ some r → r .result ≤ 180
-result-known f i r e = leb-true _ _ (both-true (every value? (r .arguments)) (known? (r .result)) (every-element codesKnown (listingOf f) (known-rules f) i r e) .1)
-
 -- at most 63 rules, and at least one
 pub few-rules : (f : ℕ) → length (listingOf f) ≤ 63
 unfolding functionSets bits regularRules codesOf listedRules floatScalars concreteFloatScalars concreteIntScalars vectorSizes scalarOrVecn
@@ -137,17 +124,16 @@ built (set.Regular r) =
     both (both (ltb (r .constructors .0) (2 ^ 13)) (both (ltb (r .scalars .0) (2 ^ 12)) (leb (r .arity) 4)))
     (both (ltb 0 (r .scalars .0)) (allConclude r))
 built (set.List l) = true
-built set.Unknown = true
 
-each-built : (f : ℕ) → built (functionSetOf f) ≡ true
+each-built : (f : ℕ) → f < functionCount → built (functionSetOf f) ≡ true
 unfolding functionSets allConclude bits codesOf concludedOf predeclaredCode
-each-built f = each-number built refl refl f
+each-built f h = each-function built refl f h
 
 -- no rule of a function's Regular set lacks a conclusion
-pub regular-built : (f : ℕ) {r : Regular} → functionSetOf f ≡ set.Regular r → Built r
-regular-built f {r} e =
-    let h : built (set.Regular r) ≡ true = sym (ap built e) ∙ each-built f in
-    let a = both-true _ _ h in
+pub regular-built : (f : ℕ) → f < functionCount → {r : Regular} → functionSetOf f ≡ set.Regular r → Built r
+regular-built f h {r} e =
+    let b : built (set.Regular r) ≡ true = sym (ap built e) ∙ each-built f h in
+    let a = both-true _ _ b in
     let k = both-true _ _ (a .0) in
     let s = both-true _ _ (k .1) in
     let l = both-true _ _ (a .1) in
@@ -159,24 +145,9 @@ regular-built f {r} e =
 
 -- ---- the rule at an index
 
-abbrev pub function? : FunctionSet → Bool
-function? (set.Regular r) = true
-function? (set.List l) = true
-function? set.Unknown = false
-
-pub number-known : (f : ℕ) → ltb f functionCount ≡ function? (functionSetOf f)
-unfolding functionSets
-number-known f = go (ltb f functionCount) refl
-  where
-    go : (b : Bool) → ltb f functionCount ≡ b → b ≡ function? (functionSetOf f)
-    go true h = sym (each-function function? refl f (ltb-true f functionCount h))
-    go false h = sym (ap function? (no-function (ltb-false f functionCount h)))
-
-pub rule-of-set : (f i : ℕ) {s : FunctionSet} → functionSetOf f ≡ s → ruleAt f i ≡ choose (function? s) (ruleIn (rulesIn s) i) (refusal 7 0 noRule)
+pub rule-of-set : (f i : ℕ) → f < functionCount → {s : FunctionSet} → functionSetOf f ≡ s → ruleAt f i ≡ ruleIn (rulesIn s) i
 unfolding ruleAt listingOf
-rule-of-set f i e =
-    ap (λ (b : Bool). choose b (ruleIn (rulesIn (functionSetOf f)) i) (refusal 7 0 noRule)) (number-known f)
-    ∙ ap (λ (s : FunctionSet). choose (function? s) (ruleIn (rulesIn s) i) (refusal 7 0 noRule)) e
+rule-of-set f i h e = simp (lt-ltb f functionCount h, e)
 
 -- ---- sizes: Min has 44 rules, Mix 32 of which 28 are distinct, Transpose 36
 

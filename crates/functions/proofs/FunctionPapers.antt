@@ -10,16 +10,16 @@ use Rattle.scalars.specs.declared.refusal.Refusal.{Refusal}
 use Rattle.scalars.proofs.Papers.{read, one-to-one}
 use Rattle.regular.specs.declared.regular.ConclusionRule.{ConclusionRule}
 use Rattle.regular.specs.SetPaper.{conclusionOf}
+use Rattle.regular.specs.Regular.{emptyRegular}
 use Rattle.regular.proofs.SetPapers.{conclusion-back}
 use Rattle.functions.specs.declared.mathfunction.FunctionSet.{FunctionSet}
-use Rattle.functions.specs.declared.mathfunction.FunctionSet.the-variants.{Regular, List, Unknown}
-use Rattle.functions.specs.declared.listed_rules.Listed.{Listed}
-use Rattle.functions.specs.declared.listed_rules.Listed.the-variants.{Ldexp, Outer, Refract, Mix, Transpose, ExtractBits, InsertBits}
+use Rattle.functions.specs.declared.mathfunction.FunctionSet.the-variants.{Regular, List}
+use Rattle.functions.specs.declared.listed_rules.ListFunction.{ListFunction}
+use Rattle.functions.specs.declared.listed_rules.ListFunction.the-variants.{Ldexp, Outer, Refract, Mix, Transpose, ExtractBits, InsertBits}
 use Rattle.functions.specs.FunctionPaper.{listedNumber, functionPaper}
 use Rattle.functions.specs.Functions.{functionSetOf, setOfFunction}
-use Rattle.functions.proofs.Database.{set-of}
 
-abbrev listedOf : ℕ → Listed
+abbrev listedOf : ℕ → ListFunction
 listedOf n =
     choose (eqb n 0) Ldexp
     (choose (eqb n 1) Outer
@@ -29,7 +29,7 @@ listedOf n =
     (choose (eqb n 5) ExtractBits
     InsertBits)))))
 
-listed-back : (l : Listed) → listedOf (listedNumber l) ≡ l
+listed-back : (l : ListFunction) → listedOf (listedNumber l) ≡ l
 listed-back Ldexp = refl
 listed-back Outer = refl
 listed-back Refract = refl
@@ -51,19 +51,19 @@ setIn vs =
     choose (eqb (getD vs 0 0) 0) (regularIn (getD vs 1 0) (getD vs 2 0) (getD vs 3 0) (conclusionOf (getD vs 4 0)))
     (List (listedOf (getD vs 1 0)))
 
-abbrev unknown : Refusal → FunctionSet
-unknown why = Unknown
+-- no set is refused
+abbrev none : Refusal → FunctionSet
+none why = Regular emptyRegular
 
-function-back : (a : FunctionSet) → read setIn unknown (functionPaper a) ≡ a
+function-back : (a : FunctionSet) → read setIn none (functionPaper a) ≡ a
 unfolding read
 function-back (Regular r) =
     ap (λ (k : ConclusionRule). regularIn (r .arity) (r .constructors .0) (r .scalars .0) k) (conclusion-back (r .conclude))
 function-back (List l) = ap List (listed-back l)
-function-back Unknown = refl
 
 pub function-one : (a b : FunctionSet) → functionPaper a ≡ functionPaper b → a ≡ b
-function-one = one-to-one functionPaper (read setIn unknown) function-back
+function-one = one-to-one functionPaper (read setIn none) function-back
 
 -- what `function_set` answers is the set of the function
 pub set-told : (f : ℕ) (a : FunctionSet) {s : FunctionSet} → functionPaper a ≡ setOfFunction f → a ≡ s → functionSetOf f ≡ s
-set-told f a e h = sym (function-one a (functionSetOf f) (e ∙ sym (set-of f))) ∙ h
+set-told f a e h = sym (function-one a (functionSetOf f) e) ∙ h

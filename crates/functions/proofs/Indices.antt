@@ -11,6 +11,7 @@ use lib.Seq.{getD-append-add}
 use Rattle.scalars.specs.Mask.{every}
 use Rattle.rules.specs.Signature.{Signature}
 use Rattle.rules.specs.Rule.{blankRule, ruleOf}
+use Rattle.types.specs.TypeCode.{typeCode}
 use Rattle.regular.specs.Regular.{pairs, codesOf, regularRules, signatureFor, ruleFrom, ruleFor, concludedOf, concluded?, allConclude}
 use Rattle.functions.specs.Functions.{ruleIn}
 use Rattle.scalars.specs.Paper.{Paper, accepted, refusal, value}
@@ -34,18 +35,18 @@ rule-past (r ∷ rs) (suc i) h = rule-past rs i (le-of-suc-le-suc h)
 -- ---- a Regular set
 
 -- the pair of the q-th constructor and the r-th scalar
-pub pairs-at : (ks ss : List ℕ) (q r : ℕ) → r < length ss → q < length ks
-    → getD (pairs ks ss) (q * length ss + r) 0 ≡ getD ks q 0 * 12 + getD ss r 0
-pairs-at [] ss q r h l = absurd (not-suc-le-zero l)
-pairs-at (k ∷ ks) ss zero r h l =
+pub pairs-at : (d : ℕ) (ks ss : List ℕ) (q r : ℕ) → r < length ss → q < length ks
+    → getD (pairs ks ss) (q * length ss + r) 0 ≡ typeCode (getD ks q d) (getD ss r d)
+pairs-at d [] ss q r h l = absurd (not-suc-le-zero l)
+pairs-at d (k ∷ ks) ss zero r h l =
     ap (λ (i : ℕ). getD (pairs (k ∷ ks) ss) i 0) (ap (λ (z : ℕ). z + r) (zero-mul (length ss)) ∙ zero-add r)
-    ∙ List·getD-append (map (λ s. k * 12 + s) ss) (pairs ks ss) 0 r (subst (λ (n : ℕ). r < n) (sym (length-map ss (λ s. k * 12 + s))) h)
-    ∙ map-at (λ s. k * 12 + s) ss r 0 0 h
-pairs-at (k ∷ ks) ss (suc q) r h l =
+    ∙ List·getD-append (map (typeCode k) ss) (pairs ks ss) 0 r (subst (λ (n : ℕ). r < n) (sym (length-map ss (typeCode k))) h)
+    ∙ map-at (typeCode k) ss r d 0 h
+pairs-at d (k ∷ ks) ss (suc q) r h l =
     ap (λ (i : ℕ). getD (pairs (k ∷ ks) ss) i 0)
-    (omega (arith, suc-mul q (length ss), length-map ss (λ s. k * 12 + s)))
-    ∙ getD-append-add (map (λ s. k * 12 + s) ss) (pairs ks ss) (q * length ss + r) 0
-    ∙ pairs-at ks ss q r h (le-of-suc-le-suc l)
+    (omega (arith, suc-mul q (length ss), length-map ss (typeCode k)))
+    ∙ getD-append-add (map (typeCode k) ss) (pairs ks ss) (q * length ss + r) 0
+    ∙ pairs-at d ks ss q r h (le-of-suc-le-suc l)
 
 every-getD : (p : ℕ → Bool) (ts : List ℕ) (i : ℕ) → i < length ts → every p ts ≡ true → p (getD ts i 0) ≡ true
 every-getD p [] i h e = absurd (not-suc-le-zero h)

@@ -7,64 +7,46 @@ use Prim.Native.Nat.{ℕ, _/_, _%_, _≤_, _<_}
 use lib.Dec.{eqb, lit≤}
 use lib.ListN.{length, getD, length-map, List·getD-eq-default}
 use borrow.Author.Tests.{eq-eqb, ne-eqb}
-use Rattle.scalars.specs.Mask.{choose}
+use Rattle.scalars.specs.Mask.{choose, upTo}
 use Rattle.rules.specs.Rule.{blankRule, ruleOf}
 use Rattle.functions.specs.Sequences.{floatScalars, concreteFloatScalars, concreteIntScalars, vectorSizes, vector, matrix, scalarOrVecn}
 use Rattle.functions.specs.ListedRules.{listedRules}
-use Rattle.functions.specs.declared.listed_rules.Listed.{Listed}
-use Rattle.functions.specs.declared.listed_rules.Listed.the-variants.{Ldexp, Outer, Refract, Mix, Transpose, ExtractBits, InsertBits}
+use Rattle.functions.specs.declared.listed_rules.ListFunction.{ListFunction}
+use Rattle.functions.specs.declared.listed_rules.ListFunction.the-variants.{Ldexp, Outer, Refract, Mix, Transpose, ExtractBits, InsertBits}
 use Rattle.rules.specs.declared.rule.Rule.{Rule}
 use Rattle.functions.proofs.Runs.{numbered}
 
 -- ---- how many rules there are
 
-abbrev pub ruleCount : Listed → ℕ
-ruleCount Ldexp = 12
-ruleCount Outer = 27
-ruleCount Refract = 9
-ruleCount Mix = 32
-ruleCount Transpose = 36
-ruleCount ExtractBits = 24
-ruleCount InsertBits = 24
-
-counted : (l : Listed) → length (listedRules l) ≡ ruleCount l
-unfolding listedRules floatScalars concreteFloatScalars concreteIntScalars vectorSizes scalarOrVecn
-counted Ldexp = refl
-counted Outer = refl
-counted Refract = refl
-counted Mix = refl
-counted Transpose = refl
-counted ExtractBits = refl
-counted InsertBits = refl
-
-pub counts : {l m : Listed} → l ≡ m → ruleCount m ≡ length (listedRules l)
-counts {l} e = sym (counted l ∙ ap ruleCount e)
-
-pub within : {l m : Listed} {n k : ℕ} → n ≡ length (listedRules l) → l ≡ m → k < n → k < ruleCount m
-within {k = k} c e h = subst (λ (n : ℕ). k < n) (c ∙ sym (counts e)) h
+-- a place in a List, once it is known which List it is
+pub within : {l m : ListFunction} {n k : ℕ} → n ≡ length (listedRules l) → l ≡ m → k < n → k < length (listedRules m)
+within {k = k} c e h = subst (λ (n : ℕ). k < n) (c ∙ ap (λ (f : ListFunction). length (listedRules f)) e) h
 
 -- behind the last rule there is no rule
-pub behind : (l : Listed) {n k : ℕ} → n ≡ length (listedRules l) → n ≤ k → blankRule ≡ getD (map ruleOf (listedRules l)) k blankRule
+pub behind : (l : ListFunction) {n k : ℕ} → n ≡ length (listedRules l) → n ≤ k → blankRule ≡ getD (map ruleOf (listedRules l)) k blankRule
 behind l {n} {k} c h =
     sym (List·getD-eq-default (map ruleOf (listedRules l)) blankRule {n = k} (subst (λ (m : ℕ). m ≤ k) (c ∙ sym (length-map (listedRules l) ruleOf)) h))
 
-pub few-listed : (l : Listed) → length (listedRules l) ≤ 63
-few-listed l = subst (λ (n : ℕ). n ≤ 63) (sym (counted l)) (few l)
-  where
-    few : (l : Listed) → ruleCount l ≤ 63
-    few Ldexp = lit≤ tt
-    few Outer = lit≤ tt
-    few Refract = lit≤ tt
-    few Mix = lit≤ tt
-    few Transpose = lit≤ tt
-    few ExtractBits = lit≤ tt
-    few InsertBits = lit≤ tt
+pub few-listed : (l : ListFunction) → length (listedRules l) ≤ 63
+unfolding listedRules floatScalars concreteFloatScalars concreteIntScalars vectorSizes scalarOrVecn
+few-listed Ldexp = lit≤ tt
+few-listed Outer = lit≤ tt
+few-listed Refract = lit≤ tt
+few-listed Mix = lit≤ tt
+few-listed Transpose = lit≤ tt
+few-listed ExtractBits = lit≤ tt
+few-listed InsertBits = lit≤ tt
 
 -- ---- each rule by its place
 
 -- the rule at a place of a List
-abbrev pub placed : Listed → ℕ → Rule
+abbrev pub placed : ListFunction → ℕ → Rule
 placed l k = getD (map ruleOf (listedRules l)) k blankRule
+
+-- a List whose rules are what a function gives of their places
+at-place : (l : ListFunction) (g : ℕ → Rule) → map ruleOf (listedRules l) ≡ map g (upTo (length (listedRules l)))
+    → (k : ℕ) → k < length (listedRules l) → g k ≡ placed l k
+at-place l g e k h = sym (numbered blankRule (map ruleOf (listedRules l)) g (length (listedRules l)) k e h)
 
 -- the members of the sequences, the last one from there on
 abbrev float : ℕ → ℕ
@@ -94,67 +76,67 @@ ternary a b c r = record { a0 = a; a1 = b; a2 = c; a3 = 255; count = 3; result =
 abbrev ldexpPlace : ℕ → Rule
 ldexpPlace k = binary (shaped (concreteFloat (k / 4)) (k % 4)) (shaped 2 (k % 4)) (shaped (concreteFloat (k / 4)) (k % 4))
 
-pub ldexp-at : (k : ℕ) → k < 12 → ldexpPlace k ≡ placed Ldexp k
+pub ldexp-at : (k : ℕ) → k < length (listedRules Ldexp) → ldexpPlace k ≡ placed Ldexp k
 unfolding ruleOf listedRules concreteFloatScalars scalarOrVecn vector
-ldexp-at k h = sym (numbered blankRule (map ruleOf (listedRules Ldexp)) ldexpPlace 12 k refl h)
+ldexp-at = at-place Ldexp ldexpPlace refl
 
 abbrev outerPlace : ℕ → Rule
 outerPlace k =
-    binary (vector (size (k / 9)) (concreteFloat (k % 3))) (vector (size (k / 3 % 3)) (concreteFloat (k % 3)))
-    (matrix (size (k / 9)) (size (k / 3 % 3)) (concreteFloat (k % 3)))
+    binary (vector (size (k / 3 / 3)) (concreteFloat (k % 3))) (vector (size (k / 3 % 3)) (concreteFloat (k % 3)))
+    (matrix (size (k / 3 / 3)) (size (k / 3 % 3)) (concreteFloat (k % 3)))
 
-pub outer-at : (k : ℕ) → k < 27 → outerPlace k ≡ placed Outer k
+pub outer-at : (k : ℕ) → k < length (listedRules Outer) → outerPlace k ≡ placed Outer k
 unfolding ruleOf listedRules concreteFloatScalars vectorSizes vector matrix
-outer-at k h = sym (numbered blankRule (map ruleOf (listedRules Outer)) outerPlace 27 k refl h)
+outer-at = at-place Outer outerPlace refl
 
 abbrev refractPlace : ℕ → Rule
 refractPlace k =
     ternary (vector (size (k / 3)) (concreteFloat (k % 3))) (vector (size (k / 3)) (concreteFloat (k % 3))) (concreteFloat (k % 3))
     (vector (size (k / 3)) (concreteFloat (k % 3)))
 
-pub refract-at : (k : ℕ) → k < 9 → refractPlace k ≡ placed Refract k
+pub refract-at : (k : ℕ) → k < length (listedRules Refract) → refractPlace k ≡ placed Refract k
 unfolding ruleOf listedRules concreteFloatScalars vectorSizes vector
-refract-at k h = sym (numbered blankRule (map ruleOf (listedRules Refract)) refractPlace 9 k refl h)
+refract-at = at-place Refract refractPlace refl
 
 -- even places have the ratio of the operands' type, odd ones that of their scalar
 abbrev mixed : Bool → ℕ → Rule
 mixed b k =
-    let input = shaped (float (k / 8)) (k / 2 % 4) in
-    ternary input input (choose b input (float (k / 8))) input
+    let input = shaped (float (k / 2 / 4)) (k / 2 % 4) in
+    ternary input input (choose b input (float (k / 2 / 4))) input
 
 abbrev mixPlace : ℕ → Rule
 mixPlace k = mixed (eqb (k % 2) 0) k
 
-mix-at : (k : ℕ) → k < 32 → mixPlace k ≡ placed Mix k
+mix-at : (k : ℕ) → k < length (listedRules Mix) → mixPlace k ≡ placed Mix k
 unfolding ruleOf listedRules floatScalars scalarOrVecn vector
-mix-at k h = sym (numbered blankRule (map ruleOf (listedRules Mix)) mixPlace 32 k refl h)
+mix-at = at-place Mix mixPlace refl
 
-pub mix-even : (k : ℕ) → k < 32 → k % 2 ≡ 0 → mixed true k ≡ placed Mix k
+pub mix-even : (k : ℕ) → k < length (listedRules Mix) → k % 2 ≡ 0 → mixed true k ≡ placed Mix k
 mix-even k h e = ap (λ (b : Bool). mixed b k) (sym (eq-eqb (k % 2) 0 e)) ∙ mix-at k h
 
-pub mix-odd : (k : ℕ) → k < 32 → (k % 2 ≡ 0 → ⊥) → mixed false k ≡ placed Mix k
+pub mix-odd : (k : ℕ) → k < length (listedRules Mix) → (k % 2 ≡ 0 → ⊥) → mixed false k ≡ placed Mix k
 mix-odd k h e = ap (λ (b : Bool). mixed b k) (sym (ne-eqb (k % 2) 0 e)) ∙ mix-at k h
 
 abbrev transposePlace : ℕ → Rule
 transposePlace k =
-    unary (matrix (size (k / 12)) (size (k / 4 % 3)) (float (k % 4))) (matrix (size (k / 4 % 3)) (size (k / 12)) (float (k % 4)))
+    unary (matrix (size (k / 4 / 3)) (size (k / 4 % 3)) (float (k % 4))) (matrix (size (k / 4 % 3)) (size (k / 4 / 3)) (float (k % 4)))
 
-pub transpose-at : (k : ℕ) → k < 36 → transposePlace k ≡ placed Transpose k
+pub transpose-at : (k : ℕ) → k < length (listedRules Transpose) → transposePlace k ≡ placed Transpose k
 unfolding ruleOf listedRules floatScalars vectorSizes matrix
-transpose-at k h = sym (numbered blankRule (map ruleOf (listedRules Transpose)) transposePlace 36 k refl h)
+transpose-at = at-place Transpose transposePlace refl
 
 abbrev extractPlace : ℕ → Rule
 extractPlace k = let input = shaped (concreteInt (k / 4)) (k % 4) in ternary input 5 5 input
 
-pub extract-at : (k : ℕ) → k < 24 → extractPlace k ≡ placed ExtractBits k
+pub extract-at : (k : ℕ) → k < length (listedRules ExtractBits) → extractPlace k ≡ placed ExtractBits k
 unfolding ruleOf listedRules concreteIntScalars scalarOrVecn vector
-extract-at k h = sym (numbered blankRule (map ruleOf (listedRules ExtractBits)) extractPlace 24 k refl h)
+extract-at = at-place ExtractBits extractPlace refl
 
 abbrev insertPlace : ℕ → Rule
 insertPlace k =
     let input = shaped (concreteInt (k / 4)) (k % 4) in
     record { a0 = input; a1 = input; a2 = 5; a3 = 5; count = 4; result = input }
 
-pub insert-at : (k : ℕ) → k < 24 → insertPlace k ≡ placed InsertBits k
+pub insert-at : (k : ℕ) → k < length (listedRules InsertBits) → insertPlace k ≡ placed InsertBits k
 unfolding ruleOf listedRules concreteIntScalars scalarOrVecn vector
-insert-at k h = sym (numbered blankRule (map ruleOf (listedRules InsertBits)) insertPlace 24 k refl h)
+insert-at = at-place InsertBits insertPlace refl

@@ -49,14 +49,20 @@ module _ {A : Type 0} (d : A) where
       only zero = refl
       only (suc j) = refl
 
--- f is none of the keys k, k + 1, .. of n arms, as a `match` says it behind them
-abbrev NoneOf : ℕ → ℕ → ℕ → Type 0
-NoneOf k zero f = Unit
-NoneOf k (suc n) f = NoneOf k n f × (OneOf ((k + n) ∷ []) f → ⊥)
+-- the next number
+pub past : {k f : ℕ} → k ≤ f → (f ≡ k → ⊥) → suc k ≤ f
+past h d = omega arith
 
-pub none-of : (k n : ℕ) {f : ℕ} → NoneOf k n f → k ≤ f → k + n ≤ f
-none-of k zero c h = omega arith
-none-of k (suc n) {f} c h =
-    let m : k + n ≤ f = none-of k n (c .0) h in
-    let d : f ≡ k + n → ⊥ = c .1 in
-    omega arith
+-- f is none of the keys k, k + 1, .. of n arms that follow others, as a `match` says it behind them
+abbrev NoneOf : Type 0 → ℕ → ℕ → ℕ → Type 0
+NoneOf B k zero f = B
+NoneOf B k (suc n) f = NoneOf B k n f × (OneOf ((k + n) ∷ []) f → ⊥)
+
+pub none-of : (B : Type 0) (k n : ℕ) {f : ℕ} → NoneOf B k n f → k ≤ f → k + n ≤ f
+none-of B k zero c h = omega arith
+none-of B k (suc n) {f} c h = omega (arith, past (none-of B k n (c .0) h) (c .1))
+
+-- what the others say
+pub others : (B : Type 0) (k n f : ℕ) → NoneOf B k n f → B
+others B k zero f c = c
+others B k (suc n) f c = others B k n f (c .0)

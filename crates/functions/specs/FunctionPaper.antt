@@ -1,16 +1,15 @@
--- The paper's number, place and values for the set of a function: 0 and a Regular set's parts, or 1 and which of the Lists it is. An
--- unknown function is refusal 7 at 0, with the empty Regular set.
+-- The paper's values for the set of a function: 0 and a Regular set's parts, or 1 and which of the Lists it is.
 use mathlib.Core.List.{[], _∷_}
 use Prim.Native.Nat.{ℕ}
-use Rattle.scalars.specs.Paper.{Paper, accepted, refusal}
-use Rattle.regular.specs.SetPaper.{regularValues, noSet}
+use Rattle.scalars.specs.Paper.{Paper, accepted, unused}
+use Rattle.regular.specs.SetPaper.{regularValues}
 use Rattle.functions.specs.declared.mathfunction.FunctionSet.{FunctionSet}
-use Rattle.functions.specs.declared.mathfunction.FunctionSet.the-variants.{Regular, List, Unknown}
-use Rattle.functions.specs.declared.listed_rules.Listed.{Listed}
-use Rattle.functions.specs.declared.listed_rules.Listed.the-variants.{Ldexp, Outer, Refract, Mix, Transpose, ExtractBits, InsertBits}
+use Rattle.functions.specs.declared.mathfunction.FunctionSet.the-variants.{Regular, List}
+use Rattle.functions.specs.declared.listed_rules.ListFunction.{ListFunction}
+use Rattle.functions.specs.declared.listed_rules.ListFunction.the-variants.{Ldexp, Outer, Refract, Mix, Transpose, ExtractBits, InsertBits}
 
 -- the functions that have a List, in the order of their numbers
-abbrev pub listedNumber : Listed → ℕ
+abbrev pub listedNumber : ListFunction → ℕ
 listedNumber Ldexp = 0
 listedNumber Outer = 1
 listedNumber Refract = 2
@@ -21,5 +20,4 @@ listedNumber InsertBits = 6
 
 abbrev pub functionPaper : FunctionSet → Paper
 functionPaper (Regular r) = accepted (0 ∷ regularValues r)
-functionPaper (List l) = accepted (1 ∷ listedNumber l ∷ 255 ∷ 255 ∷ 255 ∷ [])
-functionPaper Unknown = refusal 7 0 (0 ∷ noSet)
+functionPaper (List l) = accepted (1 ∷ listedNumber l ∷ unused ∷ unused ∷ unused ∷ [])

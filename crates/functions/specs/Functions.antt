@@ -6,20 +6,20 @@ use Prim.Native.Nat.{ℕ, zero, suc}
 use lib.Dec.{eqb, ltb}
 use lib.ListN.{getD, replicate}
 use Rattle.scalars.specs.Mask.{choose, either}
-use Rattle.scalars.specs.Domain.{concreteInteger?, concreteFloat?, float?, numeric?}
+use Rattle.scalars.specs.Domain.{i32, u32, f32, concreteInteger?, concreteFloat?, float?, numeric?}
 use Rattle.rules.specs.Signature.{Signature}
 use Rattle.scalars.specs.Scalar.{scalarsThat}
+use Rattle.types.specs.Domain.{scalar, vec2, vec4}
 use Rattle.types.specs.Constructor.{vector?, constructorsThat}
 use Rattle.rules.specs.Rule.{ruleOf}
-use Rattle.regular.specs.SetPaper.{noSet}
-use Rattle.regular.specs.Regular.{regularOf, regularRules}
+use Rattle.regular.specs.Regular.{regularOf, emptyRegular, regularRules}
 use Rattle.functions.specs.ListedRules.{listedRules}
+use Rattle.functions.specs.FunctionPaper.{functionPaper}
 use Rattle.scalars.specs.Paper.{Paper, accepted, refusal}
 use Rattle.rules.specs.RulePaper.{ruleValues, noRule}
-use Rattle.functions.specs.FunctionPaper.{functionPaper}
 use Rattle.functions.specs.declared.mathfunction.FunctionSet.{FunctionSet}
 use Rattle.functions.specs.declared.mathfunction.FunctionSet.the-variants as set
-use Rattle.functions.specs.declared.listed_rules.Listed.the-variants.{Ldexp, Outer, Refract, Mix, Transpose, ExtractBits, InsertBits}
+use Rattle.functions.specs.declared.listed_rules.ListFunction.the-variants.{Ldexp, Outer, Refract, Mix, Transpose, ExtractBits, InsertBits}
 use Rattle.regular.specs.declared.regular.ConclusionRule.{ConclusionRule}
 use Rattle.regular.specs.declared.regular.ConclusionRule.the-variants as to
 
@@ -33,25 +33,25 @@ regular n ks ss c = set.Regular (regularOf n (constructorsThat ks) (scalarsThat 
 
 -- one constructor, or one scalar, alone
 abbrev pub scalar? : ℕ → Bool
-scalar? k = eqb k 0
+scalar? k = eqb k scalar
 
 abbrev pub vec2? : ℕ → Bool
-vec2? k = eqb k 1
+vec2? k = eqb k vec2
 
 abbrev pub vec3? : ℕ → Bool
 vec3? k = eqb k 2
 
 abbrev pub vec4? : ℕ → Bool
-vec4? k = eqb k 3
+vec4? k = eqb k vec4
 
 abbrev pub i32? : ℕ → Bool
-i32? k = eqb k 2
+i32? k = eqb k i32
 
 abbrev pub u32? : ℕ → Bool
-u32? k = eqb k 5
+u32? k = eqb k u32
 
 abbrev pub f32? : ℕ → Bool
-f32? k = eqb k 8
+f32? k = eqb k f32
 
 abbrev pub scalarOrVector? : ℕ → Bool
 scalarOrVector? k = either (scalar? k) (vector? k)
@@ -95,20 +95,18 @@ functionSets =
     ∷ regular 1 square? float? to.ArgumentType ∷ set.List Transpose ∷ regular 1 square? float? to.Scalar
     ∷ componentWise 1 f32? ∷ set.List ExtractBits ∷ set.List InsertBits ∷ []
 
--- a number of 79 or above is no function
+-- a number of 79 or above is no function, and has the empty set
 unfoldable pub functionSetOf : ℕ → FunctionSet
-functionSetOf f = getD functionSets f set.Unknown
+functionSetOf f = getD functionSets f (set.Regular emptyRegular)
 
--- what is answered of a function's number: its set; of an unknown function, refusal 7 at place 0 and the empty Regular set
-unfoldable pub setOfFunction : ℕ → Paper
-setOfFunction f = choose (ltb f functionCount) (functionPaper (functionSetOf f)) (refusal 7 0 (0 ∷ noSet))
+abbrev pub setOfFunction : ℕ → Paper
+setOfFunction f = functionPaper (functionSetOf f)
 
 -- ---- full listings
 
 abbrev pub rulesIn : FunctionSet → L.List Signature
 rulesIn (set.Regular r) = regularRules r
 rulesIn (set.List l) = listedRules l
-rulesIn set.Unknown = []
 
 unfoldable pub listingOf : ℕ → L.List Signature
 listingOf f = rulesIn (functionSetOf f)

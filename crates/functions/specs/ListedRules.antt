@@ -6,8 +6,8 @@ use Rattle.scalars.specs.Mask.{choose}
 use Rattle.scalars.specs.Domain.{abstract?}
 use Rattle.rules.specs.Signature.{Signature}
 use Rattle.functions.specs.Sequences.{floatScalars, concreteFloatScalars, concreteIntScalars, vectorSizes, vector, matrix, scalarOrVecn}
-use Rattle.functions.specs.declared.listed_rules.Listed.{Listed}
-use Rattle.functions.specs.declared.listed_rules.Listed.the-variants.{Ldexp, Outer, Refract, Mix, Transpose, ExtractBits, InsertBits}
+use Rattle.functions.specs.declared.listed_rules.ListFunction.{ListFunction}
+use Rattle.functions.specs.declared.listed_rules.ListFunction.the-variants.{Ldexp, Outer, Refract, Mix, Transpose, ExtractBits, InsertBits}
 
 -- what a function gives of each element in turn, in the manner of `flat_map`
 abbrev pub each : L.List ℕ → (ℕ → L.List Signature) → L.List Signature
@@ -32,7 +32,7 @@ abbrev pub u32 : ℕ
 u32 = 5
 
 -- Outer takes columns from its left operand; Transpose swaps columns and rows; Mix lists its scalar rules twice
-unfoldable pub listedRules : Listed → L.List Signature
+unfoldable pub listedRules : ListFunction → L.List Signature
 listedRules Ldexp =
     each concreteFloatScalars (λ s. zip (scalarOrVecn s) (scalarOrVecn (exponentOf s)) (λ mantissa exponent.
     rule (mantissa ∷ exponent ∷ []) mantissa))

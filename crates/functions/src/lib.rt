@@ -2,7 +2,7 @@
 // `src/proc/overloads/mathfunction.rs` and `utils.rs`, above the crate `regular`.
 //
 // Beside `mathfunction` stand `listed_rules`, the rules of the functions that have a List; `full_listing`, a rule by its index; and
-// `totals`, how many there are. Every public function ends on every input and tests it itself.
+// `totals`, how many there are. Every public function ends on every input: a number that is no function's is refused, or has no rules.
 
 mod full_listing;
 mod listed_rules;
@@ -11,7 +11,7 @@ mod totals;
 mod utils;
 
 pub use full_listing::rule_at;
-pub use listed_rules::Listed;
+pub use listed_rules::ListFunction;
 pub use listed_rules::listed_rule;
 pub use listed_rules::rule_count;
 pub use mathfunction::FUNCTION_COUNT;

@@ -1,13 +1,13 @@
 // Overload sets for the built-in mathematical functions, by number.
 //
-// Functions are numbered from 0 in the order in which `mathfunction.rs` first names them. Most have a Regular set; seven have a List,
-// whose rules stand in `listed_rules`. Each arm gives the set of the functions whose names stand above it.
+// Functions are numbered from 0 in the order in which `mathfunction.rs` first names them, and the arms stand in its order. Most
+// functions have a Regular set, which is written out; seven have a List, whose rules stand in `listed_rules`. The names of an arm's
+// functions stand above it, in the order of their numbers.
 
 ghost use mathlib.Core.Path.{_≡_};
-ghost use Prim.Native.Nat.{_<_, _≤_};
 ghost use Rattle.functions.specs.FunctionPaper.{functionPaper};
-ghost use Rattle.functions.specs.Functions.{functionSetOf, setOfFunction};
-use crate::listed_rules::Listed;
+ghost use Rattle.functions.specs.Functions.{setOfFunction};
+use crate::listed_rules::ListFunction;
 use regular::ConclusionRule;
 use regular::Regular;
 use scalars::ScalarSet;
@@ -16,212 +16,247 @@ use types::ConstructorSet;
 // How many functions there are.
 pub const FUNCTION_COUNT: u8 = 79;
 
-// SCALAR|VECN, and MAT2X2|MAT3X3|MAT4X4.
-const SCALAR_OR_VECN: ConstructorSet = ConstructorSet(0b1111);
+// SCALAR|VECN.
+const SCALAR_OR_VECN: ConstructorSet = ConstructorSet(
+    ConstructorSet::SCALAR.0 | ConstructorSet::VECN.0,
+);
 
-const SQUARE: ConstructorSet = ConstructorSet(1 << 4 | 1 << 8 | 1 << 12);
+// MAT2X2|MAT3X3|MAT4X4.
+const SQUARE: ConstructorSet = ConstructorSet(
+    ConstructorSet::MAT2X2.0 | ConstructorSet::MAT3X3.0 | ConstructorSet::MAT4X4.0,
+);
 
-// A function's overload set; Unknown where there is no such function.
+// A function's overload set: a Regular one, or the List of one of the functions that have one.
 pub enum FunctionSet {
     Regular(Regular),
-    List(Listed),
-    Unknown,
+    List(ListFunction),
 }
 
-// The overload set of the function.
+// The overload set of the function; the empty Regular one where there is no such function.
 pub fn function_set(function: u8) -> FunctionSet
     ensures { λ r. ⌜ functionPaper r ≡ setOfFunction function ⌝ }
 {
     match function {
-        // Component-wise unary, binary and ternary numeric operations: Abs, Sign; Min, Max; Clamp
-        0..=1 => component_wise(1, ScalarSet::NUMERIC),
-        2..=3 => component_wise(2, ScalarSet::NUMERIC),
-        4 => component_wise(3, ScalarSet::NUMERIC),
-        // Component-wise unary, binary and ternary floating-point operations: Sin to InverseSqrt; Atan2, Pow, Step; Fma, SmoothStep
-        5..=30 => component_wise(1, ScalarSet::FLOAT),
-        31..=33 => component_wise(2, ScalarSet::FLOAT),
-        34..=35 => component_wise(3, ScalarSet::FLOAT),
-        // Component-wise unary concrete integer operations: CountTrailingZeros to FirstLeadingBit
-        36..=41 => component_wise(1, ScalarSet::CONCRETE_INTEGER),
-        42..=50 => packing(function),
-        51..=59 => unpacking(function),
-        60..=65 => one_off(function),
-        66..=72 => geometric(function),
-        _ => remaining(function),
+        // Component-wise unary numeric operations: Abs, Sign
+        0..=1 => FunctionSet::Regular(Regular {
+            arity: 1,
+            constructors: SCALAR_OR_VECN,
+            scalars: ScalarSet::NUMERIC,
+            conclude: ConclusionRule::ArgumentType,
+        }),
+        // Component-wise binary numeric operations: Min, Max
+        2..=3 => FunctionSet::Regular(Regular {
+            arity: 2,
+            constructors: SCALAR_OR_VECN,
+            scalars: ScalarSet::NUMERIC,
+            conclude: ConclusionRule::ArgumentType,
+        }),
+        // Component-wise ternary numeric operations: Clamp
+        4 => FunctionSet::Regular(Regular {
+            arity: 3,
+            constructors: SCALAR_OR_VECN,
+            scalars: ScalarSet::NUMERIC,
+            conclude: ConclusionRule::ArgumentType,
+        }),
+        // Component-wise unary floating-point operations: Sin, Cos, Tan, Asin, Acos, Atan, Sinh, Cosh, Tanh, Asinh, Acosh, Atanh,
+        // Saturate, Radians, Degrees, Ceil, Floor, Round, Fract, Trunc, Exp, Exp2, Log, Log2, Sqrt, InverseSqrt
+        5..=30 => FunctionSet::Regular(Regular {
+            arity: 1,
+            constructors: SCALAR_OR_VECN,
+            scalars: ScalarSet::FLOAT,
+            conclude: ConclusionRule::ArgumentType,
+        }),
+        // Component-wise binary floating-point operations: Atan2, Pow, Step
+        31..=33 => FunctionSet::Regular(Regular {
+            arity: 2,
+            constructors: SCALAR_OR_VECN,
+            scalars: ScalarSet::FLOAT,
+            conclude: ConclusionRule::ArgumentType,
+        }),
+        // Component-wise ternary floating-point operations: Fma, SmoothStep
+        34..=35 => FunctionSet::Regular(Regular {
+            arity: 3,
+            constructors: SCALAR_OR_VECN,
+            scalars: ScalarSet::FLOAT,
+            conclude: ConclusionRule::ArgumentType,
+        }),
+        // Component-wise unary concrete integer operations: CountTrailingZeros, CountLeadingZeros, CountOneBits, ReverseBits,
+        // FirstTrailingBit, FirstLeadingBit
+        36..=41 => FunctionSet::Regular(Regular {
+            arity: 1,
+            constructors: SCALAR_OR_VECN,
+            scalars: ScalarSet::CONCRETE_INTEGER,
+            conclude: ConclusionRule::ArgumentType,
+        }),
+        // Packing functions: Pack4x8snorm, Pack4x8unorm
+        42..=43 => FunctionSet::Regular(Regular {
+            arity: 1,
+            constructors: ConstructorSet::VEC4,
+            scalars: ScalarSet::F32,
+            conclude: ConclusionRule::U32,
+        }),
+        // Pack2x16snorm, Pack2x16unorm, Pack2x16float
+        44..=46 => FunctionSet::Regular(Regular {
+            arity: 1,
+            constructors: ConstructorSet::VEC2,
+            scalars: ScalarSet::F32,
+            conclude: ConclusionRule::U32,
+        }),
+        // Pack4xI8, Pack4xI8Clamp
+        47 | 49 => FunctionSet::Regular(Regular {
+            arity: 1,
+            constructors: ConstructorSet::VEC4,
+            scalars: ScalarSet::I32,
+            conclude: ConclusionRule::U32,
+        }),
+        // Pack4xU8, Pack4xU8Clamp
+        48 | 50 => FunctionSet::Regular(Regular {
+            arity: 1,
+            constructors: ConstructorSet::VEC4,
+            scalars: ScalarSet::U32,
+            conclude: ConclusionRule::U32,
+        }),
+        // Unpacking functions: Unpack4x8snorm, Unpack4x8unorm
+        51..=52 => FunctionSet::Regular(Regular {
+            arity: 1,
+            constructors: ConstructorSet::SCALAR,
+            scalars: ScalarSet::U32,
+            conclude: ConclusionRule::Vec4F,
+        }),
+        // Unpack2x16snorm, Unpack2x16unorm, Unpack2x16float
+        53..=55 => FunctionSet::Regular(Regular {
+            arity: 1,
+            constructors: ConstructorSet::SCALAR,
+            scalars: ScalarSet::U32,
+            conclude: ConclusionRule::Vec2F,
+        }),
+        // Unpack4xI8
+        56 => FunctionSet::Regular(Regular {
+            arity: 1,
+            constructors: ConstructorSet::SCALAR,
+            scalars: ScalarSet::U32,
+            conclude: ConclusionRule::Vec4I,
+        }),
+        // Unpack4xU8
+        57 => FunctionSet::Regular(Regular {
+            arity: 1,
+            constructors: ConstructorSet::SCALAR,
+            scalars: ScalarSet::U32,
+            conclude: ConclusionRule::Vec4U,
+        }),
+        // Dot4I8Packed
+        58 => FunctionSet::Regular(Regular {
+            arity: 2,
+            constructors: ConstructorSet::SCALAR,
+            scalars: ScalarSet::U32,
+            conclude: ConclusionRule::I32,
+        }),
+        // Dot4U8Packed
+        59 => FunctionSet::Regular(Regular {
+            arity: 2,
+            constructors: ConstructorSet::SCALAR,
+            scalars: ScalarSet::U32,
+            conclude: ConclusionRule::U32,
+        }),
+        // One-off operations: Dot
+        60 => FunctionSet::Regular(Regular {
+            arity: 2,
+            constructors: ConstructorSet::VECN,
+            scalars: ScalarSet::NUMERIC,
+            conclude: ConclusionRule::Scalar,
+        }),
+        // Modf
+        61 => FunctionSet::Regular(Regular {
+            arity: 1,
+            constructors: SCALAR_OR_VECN,
+            scalars: ScalarSet::FLOAT_ABSTRACT_UNIMPLEMENTED,
+            conclude: ConclusionRule::Modf,
+        }),
+        // Frexp
+        62 => FunctionSet::Regular(Regular {
+            arity: 1,
+            constructors: SCALAR_OR_VECN,
+            scalars: ScalarSet::FLOAT_ABSTRACT_UNIMPLEMENTED,
+            conclude: ConclusionRule::Frexp,
+        }),
+        // Ldexp
+        63 => FunctionSet::List(ListFunction::Ldexp),
+        // Outer
+        64 => FunctionSet::List(ListFunction::Outer),
+        // Cross
+        65 => FunctionSet::Regular(Regular {
+            arity: 2,
+            constructors: ConstructorSet::VEC3,
+            scalars: ScalarSet::FLOAT,
+            conclude: ConclusionRule::ArgumentType,
+        }),
+        // Distance
+        66 => FunctionSet::Regular(Regular {
+            arity: 2,
+            constructors: SCALAR_OR_VECN,
+            scalars: ScalarSet::FLOAT_ABSTRACT_UNIMPLEMENTED,
+            conclude: ConclusionRule::Scalar,
+        }),
+        // Length
+        67 => FunctionSet::Regular(Regular {
+            arity: 1,
+            constructors: SCALAR_OR_VECN,
+            scalars: ScalarSet::FLOAT,
+            conclude: ConclusionRule::Scalar,
+        }),
+        // Normalize
+        68 => FunctionSet::Regular(Regular {
+            arity: 1,
+            constructors: ConstructorSet::VECN,
+            scalars: ScalarSet::FLOAT,
+            conclude: ConclusionRule::ArgumentType,
+        }),
+        // FaceForward
+        69 => FunctionSet::Regular(Regular {
+            arity: 3,
+            constructors: ConstructorSet::VECN,
+            scalars: ScalarSet::FLOAT_ABSTRACT_UNIMPLEMENTED,
+            conclude: ConclusionRule::ArgumentType,
+        }),
+        // Reflect
+        70 => FunctionSet::Regular(Regular {
+            arity: 2,
+            constructors: ConstructorSet::VECN,
+            scalars: ScalarSet::FLOAT_ABSTRACT_UNIMPLEMENTED,
+            conclude: ConclusionRule::ArgumentType,
+        }),
+        // Refract
+        71 => FunctionSet::List(ListFunction::Refract),
+        // Mix
+        72 => FunctionSet::List(ListFunction::Mix),
+        // Inverse
+        73 => FunctionSet::Regular(Regular {
+            arity: 1,
+            constructors: SQUARE,
+            scalars: ScalarSet::FLOAT,
+            conclude: ConclusionRule::ArgumentType,
+        }),
+        // Transpose
+        74 => FunctionSet::List(ListFunction::Transpose),
+        // Determinant
+        75 => FunctionSet::Regular(Regular {
+            arity: 1,
+            constructors: SQUARE,
+            scalars: ScalarSet::FLOAT,
+            conclude: ConclusionRule::Scalar,
+        }),
+        // QuantizeToF16
+        76 => FunctionSet::Regular(Regular {
+            arity: 1,
+            constructors: SCALAR_OR_VECN,
+            scalars: ScalarSet::F32,
+            conclude: ConclusionRule::ArgumentType,
+        }),
+        // ExtractBits
+        77 => FunctionSet::List(ListFunction::ExtractBits),
+        // InsertBits
+        78 => FunctionSet::List(ListFunction::InsertBits),
+        // No function
+        _ => FunctionSet::Regular(Regular::EMPTY),
     }
-}
-
-// Packing functions.
-fn packing(function: u8) -> FunctionSet
-    requires { ⌜ (42 ≤ function) × (function < 51) ⌝ }
-    ensures { λ r. ⌜ r ≡ functionSetOf function ⌝ }
-{
-    match function {
-        // Pack4x8snorm, Pack4x8unorm; Pack2x16snorm, Pack2x16unorm, Pack2x16float
-        42..=43 => regular(1, ConstructorSet::VEC4, ScalarSet::F32, ConclusionRule::U32),
-        44..=46 => regular(1, ConstructorSet::VEC2, ScalarSet::F32, ConclusionRule::U32),
-        // Pack4xI8, Pack4xU8, Pack4xI8Clamp, Pack4xU8Clamp
-        47 => regular(1, ConstructorSet::VEC4, ScalarSet::I32, ConclusionRule::U32),
-        48 => regular(1, ConstructorSet::VEC4, ScalarSet::U32, ConclusionRule::U32),
-        49 => regular(1, ConstructorSet::VEC4, ScalarSet::I32, ConclusionRule::U32),
-        _ => regular(1, ConstructorSet::VEC4, ScalarSet::U32, ConclusionRule::U32),
-    }
-}
-
-// Unpacking functions, and products of packed vectors.
-fn unpacking(function: u8) -> FunctionSet
-    requires { ⌜ (51 ≤ function) × (function < 60) ⌝ }
-    ensures { λ r. ⌜ r ≡ functionSetOf function ⌝ }
-{
-    match function {
-        // Unpack4x8snorm, Unpack4x8unorm; Unpack2x16snorm, Unpack2x16unorm, Unpack2x16float
-        51..=52 => regular(
-            1,
-            ConstructorSet::SCALAR,
-            ScalarSet::U32,
-            ConclusionRule::Vec4F,
-        ),
-        53..=55 => regular(
-            1,
-            ConstructorSet::SCALAR,
-            ScalarSet::U32,
-            ConclusionRule::Vec2F,
-        ),
-        // Unpack4xI8, Unpack4xU8, Dot4I8Packed, Dot4U8Packed
-        56 => regular(
-            1,
-            ConstructorSet::SCALAR,
-            ScalarSet::U32,
-            ConclusionRule::Vec4I,
-        ),
-        57 => regular(
-            1,
-            ConstructorSet::SCALAR,
-            ScalarSet::U32,
-            ConclusionRule::Vec4U,
-        ),
-        58 => regular(
-            2,
-            ConstructorSet::SCALAR,
-            ScalarSet::U32,
-            ConclusionRule::I32,
-        ),
-        _ => regular(
-            2,
-            ConstructorSet::SCALAR,
-            ScalarSet::U32,
-            ConclusionRule::U32,
-        ),
-    }
-}
-
-// One-off operations: Dot, Modf, Frexp, Ldexp, Outer, Cross.
-fn one_off(function: u8) -> FunctionSet
-    requires { ⌜ (60 ≤ function) × (function < 66) ⌝ }
-    ensures { λ r. ⌜ r ≡ functionSetOf function ⌝ }
-{
-    match function {
-        60 => regular(
-            2,
-            ConstructorSet::VECN,
-            ScalarSet::NUMERIC,
-            ConclusionRule::Scalar,
-        ),
-        61 => regular(
-            1,
-            SCALAR_OR_VECN,
-            ScalarSet::FLOAT_ABSTRACT_UNIMPLEMENTED,
-            ConclusionRule::Modf,
-        ),
-        62 => regular(
-            1,
-            SCALAR_OR_VECN,
-            ScalarSet::FLOAT_ABSTRACT_UNIMPLEMENTED,
-            ConclusionRule::Frexp,
-        ),
-        63 => FunctionSet::List(Listed::Ldexp),
-        64 => FunctionSet::List(Listed::Outer),
-        _ => regular(
-            2,
-            ConstructorSet::VEC3,
-            ScalarSet::FLOAT,
-            ConclusionRule::ArgumentType,
-        ),
-    }
-}
-
-// Distance, Length, Normalize, FaceForward, Reflect, Refract, Mix.
-fn geometric(function: u8) -> FunctionSet
-    requires { ⌜ (66 ≤ function) × (function < 73) ⌝ }
-    ensures { λ r. ⌜ r ≡ functionSetOf function ⌝ }
-{
-    match function {
-        66 => regular(
-            2,
-            SCALAR_OR_VECN,
-            ScalarSet::FLOAT_ABSTRACT_UNIMPLEMENTED,
-            ConclusionRule::Scalar,
-        ),
-        67 => regular(1, SCALAR_OR_VECN, ScalarSet::FLOAT, ConclusionRule::Scalar),
-        68 => regular(
-            1,
-            ConstructorSet::VECN,
-            ScalarSet::FLOAT,
-            ConclusionRule::ArgumentType,
-        ),
-        69 => regular(
-            3,
-            ConstructorSet::VECN,
-            ScalarSet::FLOAT_ABSTRACT_UNIMPLEMENTED,
-            ConclusionRule::ArgumentType,
-        ),
-        70 => regular(
-            2,
-            ConstructorSet::VECN,
-            ScalarSet::FLOAT_ABSTRACT_UNIMPLEMENTED,
-            ConclusionRule::ArgumentType,
-        ),
-        71 => FunctionSet::List(Listed::Refract),
-        _ => FunctionSet::List(Listed::Mix),
-    }
-}
-
-// Inverse, Transpose, Determinant, QuantizeToF16, ExtractBits, InsertBits.
-fn remaining(function: u8) -> FunctionSet
-    requires { ⌜ 73 ≤ function ⌝ }
-    ensures { λ r. ⌜ r ≡ functionSetOf function ⌝ }
-{
-    match function {
-        73 => regular(1, SQUARE, ScalarSet::FLOAT, ConclusionRule::ArgumentType),
-        74 => FunctionSet::List(Listed::Transpose),
-        75 => regular(1, SQUARE, ScalarSet::FLOAT, ConclusionRule::Scalar),
-        76 => component_wise(1, ScalarSet::F32),
-        77 => FunctionSet::List(Listed::ExtractBits),
-        78 => FunctionSet::List(Listed::InsertBits),
-        _ => FunctionSet::Unknown,
-    }
-}
-
-// A Regular set: any of its constructors over any of its scalars.
-fn regular(
-    arity: u8,
-    constructors: ConstructorSet,
-    scalars: ScalarSet,
-    conclude: ConclusionRule,
-) -> FunctionSet
-    ensures { λ r. ⌜ r ≡ FunctionSet.Regular (record { arity = arity; constructors = constructors; scalars = scalars; conclude = conclude }) ⌝ }
-{
-    FunctionSet::Regular(Regular {
-        arity: arity,
-        constructors: constructors,
-        scalars: scalars,
-        conclude: conclude,
-    })
-}
-
-// An operation component by component: scalars and vectors, with a result of the argument's type.
-fn component_wise(arity: u8, scalars: ScalarSet) -> FunctionSet
-    ensures { λ r. ⌜ r ≡ FunctionSet.Regular (record { arity = arity; constructors = record { 0 = 15 }; scalars = scalars; conclude = ConclusionRule.ArgumentType }) ⌝ }
-{
-    regular(arity, SCALAR_OR_VECN, scalars, ConclusionRule::ArgumentType)
 }

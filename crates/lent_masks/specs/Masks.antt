@@ -5,7 +5,7 @@ use Prim.Native.Nat.{ℕ, zero, suc, _+_, _*_, _/_, _%_, _^_, min}
 use lib.Dec.{leb, ltb}
 use lib.ListN.{length, take, drop}
 use Rattle.scalars.specs.Mask.{choose}
-use Rattle.scalars.specs.Paper.{Paper, accepted, refusal, refused}
+use Rattle.scalars.specs.Paper.{Paper, accepted, refusal, refused, unused}
 use Rattle.lent_masks.specs.declared.masks.MaskAnswer.{MaskAnswer}
 use Rattle.lent_masks.specs.declared.masks.MaskAnswer.the-variants.{Mask, Refused}
 
@@ -23,14 +23,14 @@ maskIn (b ∷ bs) = b + 256 * maskIn bs
 -- the mask, as far as 64 bits hold it; fewer bytes than needed are refusal 8 at their number, a bit that is no rule's is refusal 7
 unfoldable pub maskRead : ℕ → List ℕ → Paper
 maskRead n bytes =
-    choose (ltb (length bytes) (bytesFor n)) (refusal 8 (length bytes) (255 ∷ []))
-    (choose (leb (2 ^ n) (maskIn (take (bytesFor n) bytes))) (refusal 7 0 (255 ∷ []))
+    choose (ltb (length bytes) (bytesFor n)) (refusal 8 (length bytes) (unused ∷ []))
+    (choose (leb (2 ^ n) (maskIn (take (bytesFor n) bytes))) (refusal 7 0 (unused ∷ []))
     (accepted (maskIn (take (min 8 (bytesFor n)) bytes) ∷ [])))
 
 -- the paper's number, place and value where a mask is answered
 abbrev pub maskPaper : MaskAnswer → Paper
 maskPaper (Mask m) = accepted (m ∷ [])
-maskPaper (Refused why) = refused why (255 ∷ [])
+maskPaper (Refused why) = refused why (unused ∷ [])
 
 -- ---- a mask written to bytes
 

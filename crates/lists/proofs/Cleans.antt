@@ -10,18 +10,18 @@ use Rattle.scalars.specs.Mask.{select, padded}
 use Rattle.rules.specs.Signature.{Signature}
 use Rattle.lists.specs.Entry.{number}
 use Rattle.rules.specs.Rule.{blankRule, signatureOf, ruleOf}
-use Rattle.lists.specs.List.{held, signatures, listing, entries, cleanList}
+use Rattle.lists.specs.List.{mostRules, held, signatures, listing, entries, cleanList}
 use Rattle.lists.specs.private.Tested.{Valid}
 use Rattle.lists.specs.declared.list.List.{List}
 use Rattle.rules.proofs.Records.{records-say}
 use Rattle.lists.proofs.Lists.{signatures-length}
 
-module _ (l : List) (long : length (l .rules) ≡ 63) (few : l .len ≤ 63) where
+module _ (l : List) (long : length (l .rules) ≡ mostRules) (few : l .len ≤ mostRules) where
   pub clean-signatures : signatures (cleanList l) ≡ signatures l
   unfolding cleanList signatures
   clean-signatures =
       let e : length (map ruleOf (signatures l)) ≡ l .len = length-map (signatures l) ruleOf ∙ omega (arith, signatures-length l) in
-      ap (map signatureOf) (take-at (map ruleOf (signatures l)) (replicate (63 - length (map ruleOf (signatures l))) blankRule) (l .len) e) ∙ records-say (held l)
+      ap (map signatureOf) (take-at (map ruleOf (signatures l)) (replicate (mostRules - length (map ruleOf (signatures l))) blankRule) (l .len) e) ∙ records-say (held l)
 
   pub clean-listing : listing (cleanList l) ≡ listing l
   unfolding listing cleanList
@@ -36,5 +36,5 @@ module _ (l : List) (long : length (l .rules) ≡ 63) (few : l .len ≤ 63) wher
   clean-valid w = record {
     few = few;
     within = w;
-    clean = ap (λ (ss : L.List Signature). record { rules = padded 63 blankRule (map ruleOf ss); len = l .len; members = l .members }) clean-signatures;
+    clean = ap (λ (ss : L.List Signature). record { rules = padded mostRules blankRule (map ruleOf ss); len = l .len; members = l .members }) clean-signatures;
   }

@@ -1,11 +1,11 @@
 -- Rules with their indices: picked and tested as the rules are. Assumes nothing.
 use mathlib.Core.Path.{_≡_, refl, sym, ap, _∙_}
-use mathlib.Core.Bool.{Bool, true, false}
-use mathlib.Core.List.{List, [], _∷_, map}
+use mathlib.Core.Bool.{Bool}
+use mathlib.Core.List.{List, [], _∷_}
 use Prim.Native.Nat.{ℕ, zero, suc, _+_, _*_, _/_, _<_}
 use native.Mathlib.Nat.{add-zero, zero-add, add-suc, suc-add, le-of-suc-le-suc, not-suc-le-zero}
 use lib.ListN.{length, getD}
-use Rattle.scalars.specs.Mask.{consIf, both, odd, digit, select, sift}
+use Rattle.scalars.specs.Mask.{both, odd, digit, select, sift}
 use Rattle.rules.specs.Signature.{Signature}
 use Rattle.lists.specs.Entry.{Entry, number, keep}
 use Rattle.scalars.proofs.Sifts.{select-sift}
@@ -23,15 +23,6 @@ number-from i (r ∷ rs) (suc n) e d h =
 -- the rule at its own index
 pub number-at : (rs : List Signature) (n : ℕ) (e : Entry) (d : Signature) → n < length rs → getD (number 0 rs) n e ≡ record { index = n; rule = getD rs n d }
 number-at rs n e d h = number-from 0 rs n e d h ∙ ap (λ (k : ℕ). record { index = k; rule = getD rs n d }) (zero-add n)
-
--- without their indices, they are the rules that the mask picks
-rules-cons : (b : Bool) (x : Entry) (xs : List Entry) → map (λ (y : Entry). y .rule) (consIf b x xs) ≡ consIf b (x .rule) (map (λ (y : Entry). y .rule) xs)
-rules-cons true x xs = refl
-rules-cons false x xs = refl
-
-pub entry-rules : (i : ℕ) (rs : List Signature) (m : ℕ) → map (λ (x : Entry). x .rule) (select (number i rs) m) ≡ select rs m
-entry-rules i [] m = refl
-entry-rules i (r ∷ rs) m = rules-cons (odd m) (record { index = i; rule = r }) (select (number (suc i) rs) (m / 2)) ∙ ap (consIf (odd m) r) (entry-rules (suc i) rs (m / 2))
 
 -- a test looks at the rule alone
 sift-number : (p : Signature → Bool) (i : ℕ) (rs : List Signature) (m : ℕ) → sift (λ (x : Entry). p (x .rule)) (number i rs) m ≡ sift p rs m

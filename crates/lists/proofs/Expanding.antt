@@ -12,12 +12,12 @@ use lib.Seq.{take-at}
 use borrow.Author.Tests.{le-leb, lt-leb}
 use Rattle.scalars.specs.Mask.{choose, padded}
 use Rattle.rules.specs.Rule.{blankRule, ruleOf}
-use Rattle.scalars.specs.Paper.{Paper, accepted, refusal, values, refused, beside, countPaper}
+use Rattle.scalars.specs.Paper.{unused, Paper, accepted, refusal, values, refused, beside, countPaper}
 use Rattle.rules.specs.RulePaper.{rulesValues, listingPaper}
 use Rattle.rules.proofs.RulePapers.{rules-one}
-use Rattle.rules.specs.Listing.{acceptedListing, noListing}
+use Rattle.rules.specs.Listing.{mostListed, acceptedListing, noListing}
 use Rattle.rules.specs.Verdict.{onVerdict}
-use Rattle.lists.specs.List.{acceptedList, noListValues}
+use Rattle.lists.specs.List.{mostRules, acceptedList, noListValues}
 use Rattle.regular.specs.Regular.{codesOf, regularRules, regularVerdict, allConclude, regularListing}
 use Rattle.regular.specs.private.Tested.{concludedListing}
 use Rattle.lists.specs.Expansion.{listOf, expanded}
@@ -47,13 +47,13 @@ module _ {A : Type 0} where
       ∙ take-at front back n (length-append xs (replicate (n - length xs) b) ∙ omega (arith, length-replicate (n - length xs) b))
 
 module _ (r : Regular) (ok : regularVerdict r ≡ accepted []) where
-  pub expand-many : {n : ℕ} → n ≡ length (codesOf r) → 63 < n → refusal 3 0 noListValues ≡ expanded r
+  pub expand-many : {n : ℕ} → n ≡ length (codesOf r) → mostRules < n → refusal 3 0 noListValues ≡ expanded r
   unfolding expanded
-  expand-many {n} e h = rw ok (sym (ap (λ (b : Bool). choose b (choose (allConclude r) (acceptedList (listOf (regularRules r))) (refusal 13 0 noListValues)) (refusal 3 0 noListValues)) (lt-leb (length (regularRules r)) 63 (omega (arith, rules-count r)))))
+  expand-many {n} e h = rw ok (sym (ap (λ (b : Bool). choose b (choose (allConclude r) (acceptedList (listOf (regularRules r))) (refusal 13 0 noListValues)) (refusal 3 0 noListValues)) (lt-leb (length (regularRules r)) mostRules (omega (arith, rules-count r)))))
 
-  module _ {n : ℕ} (e : n ≡ length (codesOf r)) (h : n ≤ 63) (l : Listing) (asked : listingPaper l ≡ regularListing r) where
-    few : leb (length (regularRules r)) 63 ≡ true
-    few = le-leb (length (regularRules r)) 63 (omega (arith, rules-count r))
+  module _ {n : ℕ} (e : n ≡ length (codesOf r)) (h : n ≤ mostRules) (l : Listing) (asked : listingPaper l ≡ regularListing r) where
+    few : leb (length (regularRules r)) mostRules ≡ true
+    few = le-leb (length (regularRules r)) mostRules (omega (arith, rules-count r))
 
     -- the listing's paper, by the answer that stands in it
     q : (a : CountAnswer) → l .answer ≡ a → beside (countPaper a) (rulesValues (l .rules)) ≡ concludedListing r
@@ -64,12 +64,12 @@ module _ (r : Regular) (ok : regularVerdict r ≡ accepted []) where
     unfolding expanded concludedListing acceptedListing
     expand-refused why a = rw (ok, few) (go (allConclude r) (q (count.Refused why) a))
       where
-        go : (b : Bool) → refused why (255 ∷ rulesValues (l .rules)) ≡ choose b (acceptedListing (regularRules r)) (refusal 13 0 noListing)
+        go : (b : Bool) → refused why (unused ∷ rulesValues (l .rules)) ≡ choose b (acceptedListing (regularRules r)) (refusal 13 0 noListing)
             → refused why noListValues ≡ choose b (acceptedList (listOf (regularRules r))) (refusal 13 0 noListValues)
         go true f = let z : _≡_ {A = ℕ} 0 1 = cc in absurd (omega arith)
         go false f = cc
 
-    pub expand-list : (k : ℕ) → l .answer ≡ count.Count k → (rules : L.List Rule) (members : ℕ) → rules ≡ take 63 (l .rules) → members ≡ choose (leb n 63) (2 ^ n - 1) 0
+    pub expand-list : (k : ℕ) → l .answer ≡ count.Count k → (rules : L.List Rule) (members : ℕ) → rules ≡ take mostRules (l .rules) → members ≡ choose (leb n mostRules) (2 ^ n - 1) 0
         → acceptedList (record { rules = rules; len = n; members = members }) ≡ expanded r
     unfolding expanded concludedListing acceptedListing listOf
     expand-list k a rules members t m = rw (ok, few) (go (allConclude r) (q (count.Count k) a))
@@ -82,7 +82,7 @@ module _ (r : Regular) (ok : regularVerdict r ≡ accepted []) where
         go true f =
             ap acceptedList (
             ap₂ (λ (x : L.List Rule) (m : ℕ). record { rules = x; len = n; members = m })
-            (t ∙ ap (take 63) (rules-one (l .rules) (padded 156 blankRule (map ruleOf (regularRules r))) (ap (λ (p : Paper). drop 1 (values p)) f)) ∙ fewer-blanks 63 156 blankRule (map ruleOf (regularRules r)) (omega (arith, length-map (regularRules r) ruleOf, rules-count r)) (omega arith))
-            (m ∙ ap (λ (b : Bool). choose b (2 ^ n - 1) 0) (le-leb n 63 h))
-            ∙ ap (λ (c : ℕ). record { rules = padded 63 blankRule (map ruleOf (regularRules r)); len = c; members = 2 ^ c - 1 }) count-is)
+            (t ∙ ap (take mostRules) (rules-one (l .rules) (padded mostListed blankRule (map ruleOf (regularRules r))) (ap (λ (p : Paper). drop 1 (values p)) f)) ∙ fewer-blanks mostRules mostListed blankRule (map ruleOf (regularRules r)) (omega (arith, length-map (regularRules r) ruleOf, rules-count r)) (omega arith))
+            (m ∙ ap (λ (b : Bool). choose b (2 ^ n - 1) 0) (le-leb n mostRules h))
+            ∙ ap (λ (c : ℕ). record { rules = padded mostRules blankRule (map ruleOf (regularRules r)); len = c; members = 2 ^ c - 1 }) count-is)
         go false f = let z : _≡_ {A = ℕ} 0 1 = cc in absurd (omega arith)

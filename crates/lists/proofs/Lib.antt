@@ -1,4 +1,4 @@
--- Laws of Lists and of steps that several proofs use; the laws of Agreement among them.
+-- Laws of Lists and of their steps that several proofs use.
 pub mod Entries
 pub mod Lists
 pub mod Steps
@@ -7,9 +7,5 @@ pub mod Verdicts
 pub mod TypesAt
 pub mod Expanding
 pub mod Expansions
-pub mod InTurn
-pub mod SetSteps
-pub mod Preferred
-pub mod Agreement
 pub mod ChosenPapers
 pub mod AnyPapers

@@ -10,7 +10,7 @@ use lib.ListN.{length}
 use borrow.Author.Tests.{ltb-true, leb-true}
 use Rattle.scalars.specs.Mask.{choose, both, every}
 use Rattle.rules.specs.Rule.{knownRule, shortRule}
-use Rattle.lists.specs.List.{held, listing, entries, cleanList, acceptedList, noListValues, verdictOf, checkedList}
+use Rattle.lists.specs.List.{mostRules, held, listing, entries, cleanList, acceptedList, noListValues, verdictOf, checkedList}
 use Rattle.lists.specs.private.Tested.{Valid}
 use Rattle.rules.specs.Verdict.{onVerdict, emptyOf}
 use Rattle.scalars.specs.declared.answer.Verdict.{Verdict}
@@ -31,7 +31,7 @@ abbrev pub judged : Bool → Bool → Bool → Bool → Paper
 judged a b c d = choose (both a b) (choose (both c d) (accepted []) (refusal 3 0 [])) (refusal 7 0 [])
 
 -- whether the rules are known, the members are among them, the rules are few and each is short
-pub checked-by : (l : List) (a b c d : Bool) → every knownRule (held l) ≡ a → ltb (l .members) (2 ^ l .len) ≡ b → leb (l .len) 63 ≡ c → every shortRule (held l) ≡ d
+pub checked-by : (l : List) (a b c d : Bool) → every knownRule (held l) ≡ a → ltb (l .members) (2 ^ l .len) ≡ b → leb (l .len) mostRules ≡ c → every shortRule (held l) ≡ d
     → onVerdict (judged a b c d) (acceptedList (cleanList l)) noListValues ≡ checkedList l
 unfolding checkedList verdictOf
 checked-by l a b c d p q r s = rw (p, q, r, s)
@@ -44,14 +44,14 @@ passed true true false d e = let z : _≡_ {A = ℕ} 0 1 = cc in absurd (omega a
 passed true false c d e = let z : _≡_ {A = ℕ} 0 1 = cc in absurd (omega arith)
 passed false b c d e = let z : _≡_ {A = ℕ} 0 1 = cc in absurd (omega arith)
 
-accepted-tests : (l : List) → verdictOf l ≡ accepted [] → (ltb (l .members) (2 ^ l .len) ≡ true) × (leb (l .len) 63 ≡ true)
+accepted-tests : (l : List) → verdictOf l ≡ accepted [] → (ltb (l .members) (2 ^ l .len) ≡ true) × (leb (l .len) mostRules ≡ true)
 unfolding verdictOf
-accepted-tests l e = passed (every knownRule (held l)) (ltb (l .members) (2 ^ l .len)) (leb (l .len) 63) (every shortRule (held l)) e
+accepted-tests l e = passed (every knownRule (held l)) (ltb (l .members) (2 ^ l .len)) (leb (l .len) mostRules) (every shortRule (held l)) e
 
-pub accepted-few : (l : List) → verdictOf l ≡ accepted [] → l .len ≤ 63
+pub accepted-few : (l : List) → verdictOf l ≡ accepted [] → l .len ≤ mostRules
 accepted-few l e = leb-true _ _ (accepted-tests l e .1)
 
-pub accepted-valid : (l : List) → verdictOf l ≡ accepted [] → length (l .rules) ≡ 63 → Valid (cleanList l)
+pub accepted-valid : (l : List) → verdictOf l ≡ accepted [] → length (l .rules) ≡ mostRules → Valid (cleanList l)
 accepted-valid l e long = clean-valid l long (accepted-few l e) (ltb-true _ _ (accepted-tests l e .0))
 
 -- ---- the answer
@@ -72,7 +72,7 @@ verdict-in (Refused why) x y false q e = cc
 module _ (l : List) (a : ListAnswer) (e : listPaper a ≡ checkedList l) where
   verdict-is : {v : Verdict} → a .answer ≡ v → verdictOf l ≡ verdictPaper v
   unfolding checkedList verdictOf
-  verdict-is h = verdict-in (a .answer) (a .list) (cleanList l) (both (every knownRule (held l)) (ltb (l .members) (2 ^ l .len))) (both (leb (l .len) 63) (every shortRule (held l))) e ∙ ap verdictPaper h
+  verdict-is h = verdict-in (a .answer) (a .list) (cleanList l) (both (every knownRule (held l)) (ltb (l .members) (2 ^ l .len))) (both (leb (l .len) mostRules) (every shortRule (held l))) e ∙ ap verdictPaper h
 
   pub on-refused : (x : Paper) (ws : L.List ℕ) {why : Refusal} → a .answer ≡ Refused why → refused why ws ≡ onVerdict (verdictOf l) x ws
   on-refused x ws h = sym (ap (λ (v : Paper). onVerdict v x ws) (verdict-is h))
@@ -86,7 +86,7 @@ module _ (l : List) (a : ListAnswer) (e : listPaper a ≡ checkedList l) where
       list-values-one (a .list) (cleanList l)
       (ap values (ap (λ (v : Verdict). beside (verdictPaper v) (listValues (a .list))) (sym h) ∙ e ∙ ap (λ (v : Paper). onVerdict v (accepted (listValues (cleanList l))) noListValues) (verdict-is h)))
 
-  module _ (h : a .answer ≡ Accepted) (long : length (l .rules) ≡ 63) where
+  module _ (h : a .answer ≡ Accepted) (long : length (l .rules) ≡ mostRules) where
     pub tested-valid : Valid (a .list)
     tested-valid = subst⁻¹ Valid (tested-list h) (accepted-valid l (verdict-is h) long)
 

@@ -3,7 +3,7 @@
 use mathlib.Core.List as L
 use mathlib.Core.List.{_∷_}
 use Prim.Native.Nat.{ℕ}
-use Rattle.scalars.specs.Paper.{Paper, accepted, refused, beside, verdictPaper}
+use Rattle.scalars.specs.Paper.{unused, Paper, accepted, refused, beside, verdictPaper}
 use Rattle.rules.specs.RulePaper.{ruleValues, noRule, rulesValues}
 use Rattle.lists.specs.declared.list.List.{List}
 use Rattle.lists.specs.declared.list.ListAnswer.{ListAnswer}
@@ -11,7 +11,7 @@ use Rattle.lists.specs.declared.list.ChosenAnswer.{ChosenAnswer}
 use Rattle.lists.specs.declared.list.ChosenAnswer.the-variants.{Rule, Refused}
 
 abbrev pub noChoice : L.List ℕ
-noChoice = 255 ∷ noRule
+noChoice = unused ∷ noRule
 
 abbrev pub chosenPaper : ChosenAnswer → Paper
 chosenPaper (Rule c) = accepted (c .index ∷ ruleValues (c .rule))

@@ -6,4 +6,3 @@ pub mod ChosenPaper
 pub mod AnyPaper
 pub mod AnyOverloadSet
 pub mod private
-pub mod claims

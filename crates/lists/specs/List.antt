@@ -5,13 +5,13 @@ use Prim.Native.Nat.{ℕ, _-_, _^_}
 use lib.Dec.{leb, ltb}
 use lib.ListN.{length, take, replicate}
 use Rattle.scalars.specs.Mask.{choose, both, every, select, sift, padded}
-use Rattle.scalars.specs.Domain.{known?}
+use Rattle.types.specs.Domain.{known?}
 use Rattle.rules.specs.Signature.{Signature, typeAt}
 use Rattle.lists.specs.Entry.{Entry, number}
 use Rattle.rules.specs.Verdict.{onVerdict, emptyOf, countOf}
 use Rattle.rules.specs.Rule.{blankRule, signatureOf, ruleOf, knownRule, shortRule, passes}
 use Rattle.rules.specs.Listing.{acceptedListing, noListing, acceptedTypes, noTypes}
-use Rattle.scalars.specs.Paper.{Paper, accepted, refusal}
+use Rattle.scalars.specs.Paper.{unused, Paper, accepted, refusal}
 use Rattle.rules.specs.RulePaper.{ruleValues}
 use Rattle.lists.specs.ChosenPaper.{listValues, noChoice}
 use Rattle.lists.specs.declared.list.List.{List}
@@ -74,10 +74,10 @@ unfoldable pub listArg : ℕ → ℕ → List → Paper
 listArg i t l = choose (known? t) (listStep (Argument i t) l) (refusal 7 0 noListValues)
 
 unfoldable pub listEmpty : List → Paper
-listEmpty l = onVerdict (verdictOf l) (emptyOf (listing l)) (255 ∷ [])
+listEmpty l = onVerdict (verdictOf l) (emptyOf (listing l)) (unused ∷ [])
 
 unfoldable pub listCount : List → Paper
-listCount l = onVerdict (verdictOf l) (countOf (listing l)) (255 ∷ [])
+listCount l = onVerdict (verdictOf l) (countOf (listing l)) (unused ∷ [])
 
 -- the first member, with its index; of no rules, refusal 1
 abbrev pub preferredOf : L.List Entry → Paper

@@ -15,6 +15,7 @@ ghost use Rattle.lists.specs.AnyOverloadSet.{noRules, ofRegular, ofList,
 use crate::list::ChosenAnswer;
 use crate::list::List;
 use crate::list::ListAnswer;
+use crate::list::MOST_RULES;
 use regular::Regular;
 use regular::RegularAnswer;
 use rules::AllowedArgs;
@@ -28,7 +29,7 @@ use scalars::Verdict;
 pub struct AnyOverloadSet {
     pub kind: SetKind,
     // A List's rules; not in use for a Regular set.
-    pub rules: [Rule; 63],
+    pub rules: [Rule; MOST_RULES],
 }
 
 // Which kind of set it is: a Regular one, or a List with its length and members.
@@ -66,10 +67,9 @@ impl AnyOverloadSet {
         ensures { λ r. ⌜ testPaper r ≡ bySet regularEmpty listEmpty self ⌝ }
     {
         let kind = self.kind;
-        let rules = self.rules;
         match kind {
             SetKind::Regular(set) => set.is_empty(),
-            SetKind::List(len, members) => list_of(rules, len, members).is_empty(),
+            SetKind::List(len, members) => self.as_list(len, members).is_empty(),
         }
     }
 
@@ -78,10 +78,9 @@ impl AnyOverloadSet {
         ensures { λ r. ⌜ countPaper r ≡ bySet regularCount listCount self ⌝ }
     {
         let kind = self.kind;
-        let rules = self.rules;
         match kind {
             SetKind::Regular(set) => set.min_arguments(),
-            SetKind::List(len, members) => list_of(rules, len, members).min_arguments(),
+            SetKind::List(len, members) => self.as_list(len, members).min_arguments(),
         }
     }
 
@@ -90,10 +89,9 @@ impl AnyOverloadSet {
         ensures { λ r. ⌜ countPaper r ≡ bySet regularCount listCount self ⌝ }
     {
         let kind = self.kind;
-        let rules = self.rules;
         match kind {
             SetKind::Regular(set) => set.max_arguments(),
-            SetKind::List(len, members) => list_of(rules, len, members).max_arguments(),
+            SetKind::List(len, members) => self.as_list(len, members).max_arguments(),
         }
     }
 
@@ -102,10 +100,9 @@ impl AnyOverloadSet {
         ensures { λ r. ⌜ anyPaper r ≡ bySet (λ r. ofRegular (regularArg i t r)) (λ l. ofList (listArg i t l)) self ⌝ }
     {
         let kind = self.kind;
-        let rules = self.rules;
         match kind {
             SetKind::Regular(set) => regular_answer(set.arg(i, t)),
-            SetKind::List(len, members) => list_answer(list_of(rules, len, members).arg(i, t)),
+            SetKind::List(len, members) => list_answer(self.as_list(len, members).arg(i, t)),
         }
     }
 
@@ -114,14 +111,9 @@ impl AnyOverloadSet {
         ensures { λ r. ⌜ anyPaper r ≡ bySet (λ r. ofRegular (regularConcrete r)) (λ l. ofList (listStep keep.Concrete l)) self ⌝ }
     {
         let kind = self.kind;
-        let rules = self.rules;
         match kind {
             SetKind::Regular(set) => regular_answer(set.concrete_only()),
-            SetKind::List(len, members) => list_answer(list_of(
-                rules,
-                len,
-                members,
-            ).concrete_only()),
+            SetKind::List(len, members) => list_answer(self.as_list(len, members).concrete_only()),
         }
     }
 
@@ -130,14 +122,9 @@ impl AnyOverloadSet {
         ensures { λ r. ⌜ rulePaper r ≡ bySet regularPreferred (λ l. alone (listPreferred l)) self ⌝ }
     {
         let kind = self.kind;
-        let rules = self.rules;
         match kind {
             SetKind::Regular(set) => set.most_preferred(),
-            SetKind::List(len, members) => rule_alone(list_of(
-                rules,
-                len,
-                members,
-            ).most_preferred()),
+            SetKind::List(len, members) => rule_alone(self.as_list(len, members).most_preferred()),
         }
     }
 
@@ -146,10 +133,9 @@ impl AnyOverloadSet {
         ensures { λ r. ⌜ listingPaper r ≡ bySet regularListing listListing self ⌝ }
     {
         let kind = self.kind;
-        let rules = self.rules;
         match kind {
             SetKind::Regular(set) => set.overload_list(),
-            SetKind::List(len, members) => list_of(rules, len, members).overload_list(),
+            SetKind::List(len, members) => self.as_list(len, members).overload_list(),
         }
     }
 
@@ -158,22 +144,22 @@ impl AnyOverloadSet {
         ensures { λ r. ⌜ typesPaper r ≡ bySet (regularAllowed i) (listAllowed i) self ⌝ }
     {
         let kind = self.kind;
-        let rules = self.rules;
         match kind {
             SetKind::Regular(set) => set.allowed_args(i),
-            SetKind::List(len, members) => list_of(rules, len, members).allowed_args(i),
+            SetKind::List(len, members) => self.as_list(len, members).allowed_args(i),
         }
     }
-}
 
-// The List of these parts.
-fn list_of(rules: [Rule; 63], len: usize, members: u64) -> List
-    ensures { λ r. ⌜ r ≡ record { rules = rules; len = len; members = members } ⌝ }
-{
-    List {
-        rules: rules,
-        len: len,
-        members: members,
+    // The List of a set's rules, with this length and these members.
+    fn as_list(self, len: usize, members: u64) -> List
+        ensures { λ r. ⌜ r ≡ record { rules = self .rules; len = len; members = members } ⌝ }
+    {
+        let rules = self.rules;
+        List {
+            rules: rules,
+            len: len,
+            members: members,
+        }
     }
 }
 
@@ -183,7 +169,7 @@ fn any_regular(set: Regular) -> AnyOverloadSet
 {
     AnyOverloadSet {
         kind: SetKind::Regular(set),
-        rules: [Rule::BLANK; 63],
+        rules: [Rule::BLANK; MOST_RULES],
     }
 }
 

@@ -4,6 +4,7 @@ ghost use mathlib.Core.Path.{_≡_};
 ghost use lib.ListN.{take};
 ghost use Rattle.lists.specs.ChosenPaper.{listPaper};
 ghost use Rattle.lists.specs.Expansion.{expanded};
+ghost use Rattle.lists.specs.List.{mostRules};
 use crate::list::List;
 use crate::list::ListAnswer;
 use crate::list::MOST_RULES;
@@ -11,6 +12,7 @@ use crate::list::accepted;
 use crate::list::len_to_full_mask;
 use crate::list::refused;
 use regular::Regular;
+use rules::LONGEST_LISTING;
 use rules::Rule;
 use scalars::CountAnswer;
 use scalars::Refusal;
@@ -40,11 +42,11 @@ pub fn expand(set: Regular) -> ListAnswer
     }
 }
 
-// The first 63 rules of a listing.
-fn front(rules: [Rule; 156]) -> [Rule; 63]
-    ensures { λ r. ⌜ r ≡ take 63 rules ⌝ }
+// The first rules of a listing, as many as a List takes.
+fn front(rules: [Rule; LONGEST_LISTING]) -> [Rule; MOST_RULES]
+    ensures { λ r. ⌜ r ≡ take mostRules rules ⌝ }
 {
-    let mut out = [Rule::BLANK; 63];
+    let mut out = [Rule::BLANK; MOST_RULES];
     let mut i: usize = 0;
     while i < MOST_RULES {
         let rule = rules[i];

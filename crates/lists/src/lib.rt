@@ -17,6 +17,7 @@ pub use list::Chosen;
 pub use list::ChosenAnswer;
 pub use list::List;
 pub use list::ListAnswer;
+pub use list::MOST_RULES;
 pub use walks::RuleSet;
 pub use walks::filter;
 pub use walks::longest;

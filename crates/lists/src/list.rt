@@ -1,13 +1,14 @@
 // An overload set as a list of rules in order of preference, with a mask of those that are left.
 //
 // The crate shares a vector of rules by reference count. Here up to 63 small records stand in an array, with a length; bit k of the
-// mask says that rule k is a member. Whoever hands in a List may have put anything there, so each public operation tests it first.
+// mask says that rule k is a member. Whoever hands in a List may have put anything there, so each public operation tests it first; `rule`
+// alone reads one entry as it stands.
 
 ghost use mathlib.Core.List.{map};
 ghost use mathlib.Core.Path.{_≡_};
 ghost use Prim.Native.Nat.{_-_, _^_, _≤_, min};
 ghost use lib.Dec.{leb, ltb};
-ghost use lib.ListN.{take};
+ghost use lib.ListN.{take, getD};
 ghost use Rattle.scalars.specs.Mask.{choose, padded, every};
 ghost use Rattle.rules.specs.Rule.{blankRule, ruleOf, signatureOf, knownRule, shortRule};
 ghost use Rattle.scalars.specs.Paper.{refused, testPaper, countPaper};
@@ -27,6 +28,7 @@ use rules::MOST_ARGUMENTS;
 use rules::Rule;
 use rules::no_listing;
 use rules::no_types;
+use scalars::BitNumber;
 use scalars::CountAnswer;
 use scalars::Refusal;
 use scalars::Test;
@@ -34,11 +36,11 @@ use scalars::Verdict;
 use types::LAST_CODE;
 
 // The most rules of a List.
-pub(crate) const MOST_RULES: usize = 63;
+pub const MOST_RULES: usize = 63;
 
 pub struct List {
     // The rules, each more preferred than all that follow it.
-    pub rules: [Rule; 63],
+    pub rules: [Rule; MOST_RULES],
     // How many rules there are; entries behind them are not in use.
     pub len: usize,
     // Which of the rules are members.
@@ -66,7 +68,7 @@ pub enum ChosenAnswer {
 impl List {
     // The List of the first n rules, all of them members. Refused 7 for an unknown code, then 3 for more than 63 rules or a rule of
     // more than four arguments.
-    pub fn from_rules(rules: [Rule; 63], n: usize) -> ListAnswer
+    pub fn from_rules(rules: [Rule; MOST_RULES], n: usize) -> ListAnswer
         ensures { λ r. ⌜ listPaper r ≡ fromRules rules n ⌝ }
     {
         List {
@@ -101,6 +103,17 @@ impl List {
             len: n,
             members: members,
         })
+    }
+
+    // The rule at a number. From `MOST_RULES` on there is none, and the answer is the record of no rule.
+    pub fn rule(self, number: BitNumber) -> Rule
+        ensures { λ r. ⌜ r ≡ getD (self .rules) (number .0) blankRule ⌝ }
+    {
+        let n = number.0 as usize;
+        if n < MOST_RULES {
+            return self.rules[n];
+        }
+        Rule::BLANK
     }
 
     // The members whose rule has that argument, and takes the type there. Refused 7 for a type code above 180, then as the List is.
@@ -225,7 +238,7 @@ pub(crate) fn refused(why: Refusal) -> ListAnswer
     ListAnswer {
         answer: Verdict::Refused(why),
         list: List {
-            rules: [Rule::BLANK; 63],
+            rules: [Rule::BLANK; MOST_RULES],
             len: 0,
             members: 0,
         },
@@ -244,7 +257,7 @@ pub(crate) fn accepted(list: List) -> ListAnswer
 
 // How many of n rules the array holds.
 pub(crate) fn held(n: usize) -> usize
-    ensures { λ r. ⌜ r ≡ min n 63 ⌝ }
+    ensures { λ r. ⌜ r ≡ min n mostRules ⌝ }
 {
     if MOST_RULES < n {
         return MOST_RULES;
@@ -273,8 +286,8 @@ fn within(members: u64, n: usize) -> bool
 }
 
 // Whether the codes of the first n rules are known.
-fn all_known(rules: [Rule; 63], n: usize) -> bool
-    requires { ⌜ n ≤ 63 ⌝ }
+fn all_known(rules: [Rule; MOST_RULES], n: usize) -> bool
+    requires { ⌜ n ≤ mostRules ⌝ }
     ensures { λ r. ⌜ r ≡ every knownRule (take n rules) ⌝ }
 {
     let mut i: usize = 0;
@@ -289,8 +302,8 @@ fn all_known(rules: [Rule; 63], n: usize) -> bool
 }
 
 // Whether none of the first n rules has more than four arguments.
-fn all_short(rules: [Rule; 63], n: usize) -> bool
-    requires { ⌜ n ≤ 63 ⌝ }
+fn all_short(rules: [Rule; MOST_RULES], n: usize) -> bool
+    requires { ⌜ n ≤ mostRules ⌝ }
     ensures { λ r. ⌜ r ≡ every shortRule (take n rules) ⌝ }
 {
     let mut i: usize = 0;
@@ -305,11 +318,11 @@ fn all_short(rules: [Rule; 63], n: usize) -> bool
 }
 
 // The first n rules, with 255 in what is not in use.
-fn cleaned(rules: [Rule; 63], n: usize) -> [Rule; 63]
-    requires { ⌜ n ≤ 63 ⌝ }
-    ensures { λ r. ⌜ r ≡ padded 63 blankRule (map ruleOf (map signatureOf (take n rules))) ⌝ }
+fn cleaned(rules: [Rule; MOST_RULES], n: usize) -> [Rule; MOST_RULES]
+    requires { ⌜ n ≤ mostRules ⌝ }
+    ensures { λ r. ⌜ r ≡ padded mostRules blankRule (map ruleOf (map signatureOf (take n rules))) ⌝ }
 {
-    let mut out = [Rule::BLANK; 63];
+    let mut out = [Rule::BLANK; MOST_RULES];
     let mut i: usize = 0;
     while i < n {
         let rule = rules[i];

@@ -1,5 +1,6 @@
-// The walks over the members of a List, lowest bit first; each member's number is had by counting trailing zeros. `filter` and `longest`
-// take any List; the others one that was tested. A step's walk answers which rules are left, and not another array of them.
+// The walks over the members of a List, lowest bit first, by `OneBitsIter::next` and `OneBit::number`. A step's walk answers which rules are
+// left, and not another array of them. `filter` and `longest` take any List, the others one that was tested; and since every call goes
+// through these two, they read the array in place by the member's number, where `List::rule` would be handed a copy of the List.
 
 ghost use mathlib.Core.Path.{_≡_};
 ghost use Prim.Native.Nat.{_%_, _^_, min};
@@ -10,7 +11,7 @@ ghost use Rattle.rules.specs.Listing.{acceptedListing};
 ghost use Rattle.rules.specs.Rule.{passes};
 ghost use Rattle.scalars.specs.Mask.{sift};
 ghost use Rattle.lists.specs.private.Tested.{Valid};
-ghost use Rattle.lists.specs.List.{preferredOf, allowedOf, signatures, listing, entries};
+ghost use Rattle.lists.specs.List.{mostRules, preferredOf, allowedOf, signatures, listing, entries};
 ghost use Rattle.rules.specs.Verdict.{countOf};
 use crate::list::Chosen;
 use crate::list::ChosenAnswer;
@@ -22,7 +23,9 @@ use rules::Listing;
 use rules::no_codes;
 use rules::no_rules;
 use rules::no_types;
+use scalars::BitStep;
 use scalars::CountAnswer;
+use scalars::OneBitsIter;
 use scalars::Refusal;
 
 // A set of a List's rules: bit k stands for the rule at the index k.
@@ -32,44 +35,58 @@ pub struct RuleSet(pub u64);
 pub fn filter(list: List, rules: RuleSet, keep: Keep) -> RuleSet
     ensures { λ r. ⌜ r .0 ≡ sift (passes keep) (signatures list) (rules .0) ⌝ }
 {
-    let mut rest = with_rules(list.len, rules.0);
+    let mut walk = OneBitsIter(with_rules(list.len, rules.0));
     let mut left: u64 = 0;
-    while rest != 0 {
-        let n = u64::trailing_zeros(rest) as usize;
-        let bit = 1u64 << n;
-        let rule = list.rules[n];
-        if rule.passes(keep) {
-            left += bit;
+    loop {
+        match walk.next() {
+            BitStep::Done => {
+                return RuleSet(left);
+            }
+            BitStep::Bit(bit, rest) => {
+                let number = bit.number();
+                let n = number.0 as usize;
+                let rule = list.rules[n];
+                if rule.passes(keep) {
+                    left += bit.0;
+                }
+                walk = rest;
+            }
         }
-        rest -= bit;
     }
-    RuleSet(left)
 }
 
 // The longest member's number of arguments. Refused 1 where no member is left.
 pub fn longest(list: List) -> CountAnswer
     ensures { λ r. ⌜ countPaper r ≡ countOf (listing list) ⌝ }
 {
-    let mut rest = with_rules(list.len, list.members);
-    if rest == 0 {
+    let members = with_rules(list.len, list.members);
+    if members == 0 {
         return CountAnswer::Refused(Refusal::EmptySet(0));
     }
+    let mut walk = OneBitsIter(members);
     let mut best: u8 = 0;
-    while rest != 0 {
-        let n = u64::trailing_zeros(rest) as usize;
-        let rule = list.rules[n];
-        let count = rule.len();
-        if best < count {
-            best = count;
+    loop {
+        match walk.next() {
+            BitStep::Done => {
+                return CountAnswer::Count(best);
+            }
+            BitStep::Bit(bit, rest) => {
+                let number = bit.number();
+                let n = number.0 as usize;
+                let rule = list.rules[n];
+                let count = rule.len();
+                if best < count {
+                    best = count;
+                }
+                walk = rest;
+            }
         }
-        rest -= 1u64 << n;
     }
-    CountAnswer::Count(best)
 }
 
 // The bits of a mask that have one of n rules: every member of a tested List.
 fn with_rules(n: usize, mask: u64) -> u64
-    ensures { λ r. ⌜ r ≡ mask % 2 ^ min n 63 ⌝ }
+    ensures { λ r. ⌜ r ≡ mask % 2 ^ min n mostRules ⌝ }
 {
     mask % (1u64 << held(n))
 }
@@ -79,16 +96,17 @@ pub(crate) fn first(list: List) -> ChosenAnswer
     requires { ⌜ Valid list ⌝ }
     ensures { λ r. ⌜ chosenPaper r ≡ preferredOf (entries list) ⌝ }
 {
-    let rest = list.members;
-    if rest == 0 {
-        return ChosenAnswer::Refused(Refusal::EmptySet(0));
+    match OneBitsIter(list.members).next() {
+        BitStep::Done => ChosenAnswer::Refused(Refusal::EmptySet(0)),
+        BitStep::Bit(bit, _) => {
+            let number = bit.number();
+            let rule = list.rule(number);
+            ChosenAnswer::Rule(Chosen {
+                index: number.0,
+                rule: rule,
+            })
+        }
     }
-    let lowest = u64::trailing_zeros(rest) as usize;
-    let rule = list.rules[lowest];
-    ChosenAnswer::Rule(Chosen {
-        index: lowest as u8,
-        rule: rule,
-    })
 }
 
 // The members' rules.
@@ -98,17 +116,21 @@ pub(crate) fn listed(list: List) -> Listing
 {
     let mut out = no_rules();
     let mut count: usize = 0;
-    let mut rest = list.members;
-    while rest != 0 {
-        let n = u64::trailing_zeros(rest) as usize;
-        let rule = list.rules[n];
-        out[count] = rule;
-        count += 1;
-        rest -= 1u64 << n;
-    }
-    Listing {
-        answer: CountAnswer::Count(count as u8),
-        rules: out,
+    let mut walk = OneBitsIter(list.members);
+    loop {
+        match walk.next() {
+            BitStep::Done => {
+                return Listing {
+                    answer: CountAnswer::Count(count as u8),
+                    rules: out,
+                };
+            }
+            BitStep::Bit(bit, rest) => {
+                out[count] = list.rule(bit.number());
+                count += 1;
+                walk = rest;
+            }
+        }
     }
 }
 
@@ -119,19 +141,24 @@ pub(crate) fn allowed(list: List, i: usize) -> AllowedArgs
 {
     let mut out = no_codes();
     let mut count: usize = 0;
-    let mut rest = list.members;
-    while rest != 0 {
-        let n = u64::trailing_zeros(rest) as usize;
-        let rule = list.rules[n];
-        if (rule.count as usize) <= i {
-            return no_types(Refusal::NoSuchArgument(i));
+    let mut walk = OneBitsIter(list.members);
+    loop {
+        match walk.next() {
+            BitStep::Done => {
+                return AllowedArgs {
+                    answer: CountAnswer::Count(count as u8),
+                    codes: out,
+                };
+            }
+            BitStep::Bit(bit, rest) => {
+                let rule = list.rule(bit.number());
+                if (rule.count as usize) <= i {
+                    return no_types(Refusal::NoSuchArgument(i));
+                }
+                out[count] = rule.argument(i);
+                count += 1;
+                walk = rest;
+            }
         }
-        out[count] = rule.argument(i);
-        count += 1;
-        rest -= 1u64 << n;
-    }
-    AllowedArgs {
-        answer: CountAnswer::Count(count as u8),
-        codes: out,
     }
 }

@@ -8,4 +8,3 @@ pub mod Matching
 pub mod LinesDone
 pub mod RuleRecords
 pub mod Outcomes
-pub mod RunPapers

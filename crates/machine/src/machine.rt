@@ -27,12 +27,13 @@ use functions::rule_at;
 use rules::Rule;
 use rules::RuleAnswer;
 use rules::reaches;
+use scalars::UNUSED;
 
 // The stack holds at most so many operands.
 const MOST_OPERANDS: usize = 64;
 
 // What stands where no type does.
-const NO_TYPE: u8 = 255;
+const NO_TYPE: u8 = UNUSED;
 
 // How a run goes out.
 pub enum Run {

@@ -12,7 +12,8 @@ use lib.ListN.{length}
 use lib.Seq.{take-all}
 use borrow.Author.Tests.{lt-ltb, ltb-true}
 use Rattle.scalars.specs.Mask.{choose, both, consIf, odd, filter, every, select, sift, upTo, bits, maskOf}
-use Rattle.scalars.specs.Domain.{scalars, constructors, value?, abstract?, converts, constructorPart, scalarPart, isAbstract}
+use Rattle.scalars.specs.Domain.{scalars, abstract?, converts, scalarCount}
+use Rattle.types.specs.Domain.{constructors, value?, constructorPart, scalarPart, isAbstract, constructorCount, otherType}
 use Rattle.rules.specs.Signature.{reaches}
 use Rattle.scalars.specs.Scalar.{scalarsThat, convertibleFrom}
 use Rattle.types.specs.Constructor.{singletonOfCode}
@@ -60,73 +61,73 @@ shape-mask t = go (value? t) refl
   where
     go : (b : Bool) → value? t ≡ b → choose b (2 ^ constructorPart t) 0 ≡ maskOf (filter (λ k. both b (eqb (constructorPart t) k)) constructors)
     go true e =
-        let h : t < 156 = ltb-true _ _ e in
-        sym (eqb→eq _ _ (at (λ i x. eqb (maskOf (filter (λ k. eqb i k) constructors)) (2 ^ i)) constructors tt (t / 12) (omega arith)))
+        let h : t < otherType = ltb-true _ _ e in
+        sym (eqb→eq _ _ (at (λ i x. eqb (maskOf (filter (λ k. eqb i k) constructors)) (2 ^ i)) constructors tt (t / scalarCount) (omega arith)))
     go false e = refl
 
 number-mask : (t : ℕ) → reachedScalars t ≡ maskOf (filter (numbers t) scalars)
 unfolding reachedScalars convertibleFrom
 number-mask t = go (value? t) refl
   where
-    go : (b : Bool) → value? t ≡ b → choose b (choose (ltb (scalarPart t) 12) (scalarsThat (converts (scalarPart t))) 0) 0 ≡ maskOf (filter (λ s. both b (converts (scalarPart t) s)) scalars)
-    go true e = let l : t % 12 < 12 = omega arith in simp (lt-ltb _ _ l)
+    go : (b : Bool) → value? t ≡ b → choose b (choose (ltb (scalarPart t) scalarCount) (scalarsThat (converts (scalarPart t))) 0) 0 ≡ maskOf (filter (λ s. both b (converts (scalarPart t) s)) scalars)
+    go true e = let l : t % scalarCount < scalarCount = omega arith in simp (lt-ltb _ _ l)
     go false e = refl
 
 -- ---- pairs whose parts pass
 
-module _ (p q r : ℕ → Bool) (e : (k s : ℕ) → k < 13 → s < 12 → p (k * 12 + s) ≡ both (q k) (r s)) where
-  row : (k : ℕ) → k < 13 → (b : Bool) → q k ≡ b → (ss : List ℕ) → every (λ s. ltb s 12) ss ≡ true
-      → filter p (map (λ s. k * 12 + s) ss) ≡ choose b (map (λ s. k * 12 + s) (filter r ss)) []
+module _ (p q r : ℕ → Bool) (e : (k s : ℕ) → k < constructorCount → s < scalarCount → p (k * scalarCount + s) ≡ both (q k) (r s)) where
+  row : (k : ℕ) → k < constructorCount → (b : Bool) → q k ≡ b → (ss : List ℕ) → every (λ s. ltb s scalarCount) ss ≡ true
+      → filter p (map (λ s. k * scalarCount + s) ss) ≡ choose b (map (λ s. k * scalarCount + s) (filter r ss)) []
   row k h true o ss t =
-      filter-map p (λ s. k * 12 + s) ss
-      ∙ ap (map (λ s. k * 12 + s))
-      (filter-among (λ s. ltb s 12) (λ s. p (k * 12 + s)) r (λ s l. e k s h (ltb-true _ _ l) ∙ ap (λ (b : Bool). both b (r s)) o) ss t)
+      filter-map p (λ s. k * scalarCount + s) ss
+      ∙ ap (map (λ s. k * scalarCount + s))
+      (filter-among (λ s. ltb s scalarCount) (λ s. p (k * scalarCount + s)) r (λ s l. e k s h (ltb-true _ _ l) ∙ ap (λ (b : Bool). both b (r s)) o) ss t)
   row k h false o ss t =
-      filter-map p (λ s. k * 12 + s) ss
-      ∙ ap (map (λ s. k * 12 + s))
-      (filter-among (λ s. ltb s 12) (λ s. p (k * 12 + s)) (λ s. false) (λ s l. e k s h (ltb-true _ _ l) ∙ ap (λ (b : Bool). both b (r s)) o) ss t
+      filter-map p (λ s. k * scalarCount + s) ss
+      ∙ ap (map (λ s. k * scalarCount + s))
+      (filter-among (λ s. ltb s scalarCount) (λ s. p (k * scalarCount + s)) (λ s. false) (λ s l. e k s h (ltb-true _ _ l) ∙ ap (λ (b : Bool). both b (r s)) o) ss t
       ∙ filter-none (λ s. false) (λ s. refl) ss)
 
-  pub pairs-filter : (ks ss : List ℕ) → every (λ k. ltb k 13) ks ≡ true → every (λ s. ltb s 12) ss ≡ true
+  pub pairs-filter : (ks ss : List ℕ) → every (λ k. ltb k constructorCount) ks ≡ true → every (λ s. ltb s scalarCount) ss ≡ true
       → filter p (pairs ks ss) ≡ pairs (filter q ks) (filter r ss)
   pairs-filter [] ss t u = refl
   pairs-filter (k ∷ ks) ss t u =
-      filter-append p (map (λ s. k * 12 + s) ss) (pairs ks ss)
-      ∙ ap₂ (λ (xs ys : List ℕ). xs ++ ys) (row k (ltb-true _ _ (both-left (ltb k 13) _ t)) (q k) refl ss u) (pairs-filter ks ss (both-right (ltb k 13) _ t) u)
+      filter-append p (map (λ s. k * scalarCount + s) ss) (pairs ks ss)
+      ∙ ap₂ (λ (xs ys : List ℕ). xs ++ ys) (row k (ltb-true _ _ (both-left (ltb k constructorCount) _ t)) (q k) refl ss u) (pairs-filter ks ss (both-right (ltb k constructorCount) _ t) u)
       ∙ move (q k)
     where
-      move : (b : Bool) → choose b (map (λ s. k * 12 + s) (filter r ss)) [] ++ pairs (filter q ks) (filter r ss) ≡ pairs (consIf b k (filter q ks)) (filter r ss)
+      move : (b : Bool) → choose b (map (λ s. k * scalarCount + s) (filter r ss)) [] ++ pairs (filter q ks) (filter r ss) ≡ pairs (consIf b k (filter q ks)) (filter r ss)
       move true = refl
       move false = refl
 
   -- the types of a set whose parts pass
-  pub codes-filter : (c s : ℕ) → filter p (pairs (bits 13 c) (bits 12 s)) ≡ pairs (filter q (bits 13 c)) (filter r (bits 12 s))
+  pub codes-filter : (c s : ℕ) → filter p (pairs (bits constructorCount c) (bits scalarCount s)) ≡ pairs (filter q (bits constructorCount c)) (filter r (bits scalarCount s))
   unfolding bits
-  codes-filter c s = pairs-filter (bits 13 c) (bits 12 s) (every-select (λ k. ltb k 13) constructors c refl) (every-select (λ s. ltb s 12) scalars s refl)
+  codes-filter c s = pairs-filter (bits constructorCount c) (bits scalarCount s) (every-select (λ k. ltb k constructorCount) constructors c refl) (every-select (λ s. ltb s scalarCount) scalars s refl)
 
 -- ---- the types that a step leaves
 
-pub reaches-pair : (t k s : ℕ) → k < 13 → s < 12 → reaches t (k * 12 + s) ≡ both (shapes t k) (numbers t s)
+pub reaches-pair : (t k s : ℕ) → k < constructorCount → s < scalarCount → reaches t (k * scalarCount + s) ≡ both (shapes t k) (numbers t s)
 unfolding reaches
 reaches-pair t k s h l =
-    let row : (k * 12 + s) / 12 ≡ k = omega arith in
-    let column : (k * 12 + s) % 12 ≡ s = omega arith in
+    let row : (k * scalarCount + s) / scalarCount ≡ k = omega arith in
+    let column : (k * scalarCount + s) % scalarCount ≡ s = omega arith in
     simp (row, column)
 
-pub concrete-pair : (k s : ℕ) → k < 13 → s < 12 → not (isAbstract (k * 12 + s)) ≡ both true (not (abstract? s))
+pub concrete-pair : (k s : ℕ) → k < constructorCount → s < scalarCount → not (isAbstract (k * scalarCount + s)) ≡ both true (not (abstract? s))
 unfolding isAbstract
 concrete-pair k s h l =
-    let column : (k * 12 + s) % 12 ≡ s = omega arith in
-    let value : k * 12 + s < 156 = omega arith in
+    let column : (k * scalarCount + s) % scalarCount ≡ s = omega arith in
+    let value : k * scalarCount + s < otherType = omega arith in
     simp (column, lt-ltb _ _ value)
 
-pub narrowed-constructors : (t : ℕ) (r : Regular) → bits 13 (narrowed t r .constructors .0) ≡ filter (shapes t) (bits 13 (r .constructors .0))
+pub narrowed-constructors : (t : ℕ) (r : Regular) → bits constructorCount (narrowed t r .constructors .0) ≡ filter (shapes t) (bits constructorCount (r .constructors .0))
 unfolding narrowed
-narrowed-constructors t r = ap (λ (m : ℕ). bits 13 (bitAnd (r .constructors .0) m)) (shape-mask t) ∙ bits-meet 13 (shapes t) (r .constructors .0)
+narrowed-constructors t r = ap (λ (m : ℕ). bits constructorCount (bitAnd (r .constructors .0) m)) (shape-mask t) ∙ bits-meet constructorCount (shapes t) (r .constructors .0)
 
-pub narrowed-scalars : (t : ℕ) (r : Regular) → bits 12 (narrowed t r .scalars .0) ≡ filter (numbers t) (bits 12 (r .scalars .0))
+pub narrowed-scalars : (t : ℕ) (r : Regular) → bits scalarCount (narrowed t r .scalars .0) ≡ filter (numbers t) (bits scalarCount (r .scalars .0))
 unfolding narrowed
-narrowed-scalars t r = ap (λ (m : ℕ). bits 12 (bitAnd (r .scalars .0) m)) (number-mask t) ∙ bits-meet 12 (numbers t) (r .scalars .0)
+narrowed-scalars t r = ap (λ (m : ℕ). bits scalarCount (bitAnd (r .scalars .0) m)) (number-mask t) ∙ bits-meet scalarCount (numbers t) (r .scalars .0)
 
 -- the argument step leaves the types that the operand's reaches
 pub narrowed-codes : (t : ℕ) (r : Regular) → codesOf (narrowed t r) ≡ filter (reaches t) (codesOf r)
@@ -139,7 +140,7 @@ narrowed-codes t r =
 pub concrete-codes : (r : Regular) → codesOf (concreteSet r) ≡ filter (λ a. not (isAbstract a)) (codesOf r)
 unfolding codesOf concreteSet
 concrete-codes r =
-    ap₂ pairs (sym (filter-all (λ k. true) (bits 13 (r .constructors .0)) (every-true (bits 13 (r .constructors .0))))) (bits-meet 12 (λ k. not (abstract? k)) (r .scalars .0))
+    ap₂ pairs (sym (filter-all (λ k. true) (bits constructorCount (r .constructors .0)) (every-true (bits constructorCount (r .constructors .0))))) (bits-meet scalarCount (λ k. not (abstract? k)) (r .scalars .0))
     ∙ sym (codes-filter (λ a. not (isAbstract a)) (λ k. true) (λ k. not (abstract? k)) concrete-pair (r .constructors .0) (r .scalars .0))
   where
     every-true : (ks : List ℕ) → every (λ k. true) ks ≡ true

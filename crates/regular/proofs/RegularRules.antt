@@ -9,7 +9,8 @@ use lib.Dec.{T, leb, ltb}
 use lib.ListN.{replicate, length-replicate}
 use borrow.Author.Tests.{lt-ltb, le-leb, ltb-true}
 use Rattle.scalars.specs.Mask.{either, every, bits, upTo}
-use Rattle.scalars.specs.Domain.{scalars, constructors, value?, known?}
+use Rattle.scalars.specs.Domain.{scalars, scalarCount}
+use Rattle.types.specs.Domain.{constructors, value?, known?, constructorCount, otherType}
 use Rattle.types.specs.TypeCode.{predeclaredCode}
 use Rattle.rules.proofs.Records.{short?, typed?}
 use Rattle.scalars.specs.Paper.{value}
@@ -32,23 +33,23 @@ every-append : (p : ℕ → Bool) (xs ys : List ℕ) → every p xs ≡ true →
 every-append p [] ys e f = f
 every-append p (x ∷ xs) ys e f = both-true (both-left (p x) _ e) (every-append p xs ys (both-right (p x) _ e) f)
 
-row-values : (k : ℕ) → k < 13 → (ss : List ℕ) → every (λ s. ltb s 12) ss ≡ true → every value? (map (λ s. k * 12 + s) ss) ≡ true
+row-values : (k : ℕ) → k < constructorCount → (ss : List ℕ) → every (λ s. ltb s scalarCount) ss ≡ true → every value? (map (λ s. k * scalarCount + s) ss) ≡ true
 row-values k h [] e = refl
 row-values k h (s ∷ ss) e =
-    let l : s < 12 = ltb-true _ _ (both-left (ltb s 12) _ e) in
-    both-true (lt-ltb (k * 12 + s) 156 (omega arith)) (row-values k h ss (both-right (ltb s 12) _ e))
+    let l : s < scalarCount = ltb-true _ _ (both-left (ltb s scalarCount) _ e) in
+    both-true (lt-ltb (k * scalarCount + s) otherType (omega arith)) (row-values k h ss (both-right (ltb s scalarCount) _ e))
 
-pairs-values : (ks ss : List ℕ) → every (λ k. ltb k 13) ks ≡ true → every (λ s. ltb s 12) ss ≡ true → every value? (pairs ks ss) ≡ true
+pairs-values : (ks ss : List ℕ) → every (λ k. ltb k constructorCount) ks ≡ true → every (λ s. ltb s scalarCount) ss ≡ true → every value? (pairs ks ss) ≡ true
 pairs-values [] ss e f = refl
 pairs-values (k ∷ ks) ss e f =
-    every-append value? (map (λ s. k * 12 + s) ss) (pairs ks ss)
-    (row-values k (ltb-true _ _ (both-left (ltb k 13) _ e)) ss f) (pairs-values ks ss (both-right (ltb k 13) _ e) f)
+    every-append value? (map (λ s. k * scalarCount + s) ss) (pairs ks ss)
+    (row-values k (ltb-true _ _ (both-left (ltb k constructorCount) _ e)) ss f) (pairs-values ks ss (both-right (ltb k constructorCount) _ e) f)
 
 pub codes-values : (r : Regular) → every value? (codesOf r) ≡ true
 unfolding codesOf bits
 codes-values r =
-    pairs-values (bits 13 (r .constructors .0)) (bits 12 (r .scalars .0))
-    (every-select (λ k. ltb k 13) constructors (r .constructors .0) refl) (every-select (λ s. ltb s 12) scalars (r .scalars .0) refl)
+    pairs-values (bits constructorCount (r .constructors .0)) (bits scalarCount (r .scalars .0))
+    (every-select (λ k. ltb k constructorCount) constructors (r .constructors .0) refl) (every-select (λ s. ltb s scalarCount) scalars (r .scalars .0) refl)
 
 -- ---- a conclusion is a type
 
@@ -56,7 +57,7 @@ codes-values r =
 abbrev known-or-none : ConclusionRule → ℕ → Bool
 known-or-none c t = either (not (concluded? (concludedOf c t))) (known? (value 0 (concludedOf c t)))
 
-each-known : (c : ConclusionRule) → T (table.every (λ t x. known-or-none c t) 0 (upTo 156))
+each-known : (c : ConclusionRule) → T (table.every (λ t x. known-or-none c t) 0 (upTo otherType))
 unfolding concludedOf predeclaredCode
 each-known ArgumentType = tt
 each-known Scalar = tt
@@ -71,7 +72,7 @@ each-known Vec4U = tt
 
 pub conclusion-known : (c : ConclusionRule) (t : ℕ) → value? t ≡ true → concluded? (concludedOf c t) ≡ true → known? (value 0 (concludedOf c t)) ≡ true
 conclusion-known c t v e =
-    go (known? (value 0 (concludedOf c t))) (simp e at (table.at (λ t x. known-or-none c t) (upTo 156) (each-known c) t (ltb-true _ _ v)))
+    go (known? (value 0 (concludedOf c t))) (simp e at (table.at (λ t x. known-or-none c t) (upTo otherType) (each-known c) t (ltb-true _ _ v)))
   where
     go : (b : Bool) → T b → b ≡ true
     go true h = refl

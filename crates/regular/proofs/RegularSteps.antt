@@ -9,7 +9,8 @@ use lib.Bits.{and-le-l}
 use lib.Dec.{lit≤, lit<}
 use lib.ListN.{replicate}
 use Rattle.scalars.specs.Mask.{both, filter, bits}
-use Rattle.scalars.specs.Domain.{abstract?, isAbstract}
+use Rattle.scalars.specs.Domain.{abstract?}
+use Rattle.types.specs.Domain.{isAbstract}
 use Rattle.rules.specs.Signature.{reaches, takesAt, takes, concrete}
 use Rattle.rules.proofs.Records.{allConcrete}
 use Rattle.scalars.specs.Scalar.{scalarsThat}

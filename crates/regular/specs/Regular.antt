@@ -6,8 +6,9 @@ use lib.Bits.{bitAnd}
 use lib.Dec.{eqb, leb, ltb}
 use lib.ListN.{getD, replicate}
 use Rattle.scalars.specs.Mask.{choose, both, either, every, bits}
-use Rattle.scalars.specs.Domain.{value?, known?, constructorPart, scalarPart, abstract?}
-use Rattle.scalars.specs.Paper.{Paper, accepted, refusal, value, whenAccepted}
+use Rattle.scalars.specs.Domain.{abstract?, scalarCount, i32, u32, f32}
+use Rattle.types.specs.Domain.{value?, known?, constructorPart, scalarPart, constructorCount, scalar, vec2, vec4}
+use Rattle.scalars.specs.Paper.{Paper, accepted, refusal, value, whenAccepted, unused}
 use Rattle.rules.specs.RulePaper.{ruleValues, noRule}
 use Rattle.regular.specs.SetPaper.{regularValues, noSet}
 use Rattle.rules.specs.Signature.{Signature}
@@ -27,7 +28,7 @@ pairs [] ss = []
 pairs (k ∷ ks) ss = map (typeCode k) ss ++ pairs ks ss
 
 unfoldable pub codesOf : Regular → List ℕ
-codesOf r = pairs (bits 13 (r .constructors .0)) (bits 12 (r .scalars .0))
+codesOf r = pairs (bits constructorCount (r .constructors .0)) (bits scalarCount (r .scalars .0))
 
 -- the ten conclusions; 13 where Frexp and Modf have no result
 unfoldable pub concludedOf : ConclusionRule → ℕ → Paper
@@ -35,18 +36,18 @@ concludedOf ArgumentType t = accepted (t ∷ [])
 concludedOf Scalar t = accepted (scalarPart t ∷ [])
 concludedOf Frexp t = predeclaredCode firstFrexp (constructorPart t) (scalarPart t)
 concludedOf Modf t = predeclaredCode firstModf (constructorPart t) (scalarPart t)
-concludedOf U32 t = accepted (5 ∷ [])
-concludedOf I32 t = accepted (2 ∷ [])
-concludedOf Vec2F t = accepted (20 ∷ [])
-concludedOf Vec4F t = accepted (44 ∷ [])
-concludedOf Vec4I t = accepted (38 ∷ [])
-concludedOf Vec4U t = accepted (41 ∷ [])
+concludedOf U32 t = accepted (typeCode scalar u32 ∷ [])
+concludedOf I32 t = accepted (typeCode scalar i32 ∷ [])
+concludedOf Vec2F t = accepted (typeCode vec2 f32 ∷ [])
+concludedOf Vec4F t = accepted (typeCode vec4 f32 ∷ [])
+concludedOf Vec4I t = accepted (typeCode vec4 i32 ∷ [])
+concludedOf Vec4U t = accepted (typeCode vec4 u32 ∷ [])
 
 abbrev pub concluded? : Paper → Bool
 concluded? (accepted vs) = true
 concluded? (refusal n p vs) = false
 
--- the rule of an argument type, and the listing of all; a rule without a conclusion has the result 255
+-- the rule of an argument type, and the listing of all; a rule without a conclusion has the result `unused`
 abbrev pub signatureFor : Regular → ℕ → Signature
 signatureFor r t = record { arguments = replicate (r .arity) t; result = value 0 (concludedOf (r .conclude) t) }
 
@@ -54,7 +55,7 @@ unfoldable pub regularRules : Regular → List Signature
 regularRules r = map (signatureFor r) (codesOf r)
 
 abbrev pub ruleFrom : ℕ → ℕ → Paper → Paper
-ruleFrom n t p = whenAccepted p (λ vs. accepted (ruleValues (ruleOf (record { arguments = replicate n t; result = getD vs 0 255 })))) noRule
+ruleFrom n t p = whenAccepted p (λ vs. accepted (ruleValues (ruleOf (record { arguments = replicate n t; result = getD vs 0 unused })))) noRule
 
 unfoldable pub ruleFor : Regular → ℕ → Paper
 ruleFor r t = ruleFrom (r .arity) t (concludedOf (r .conclude) t)
@@ -62,7 +63,7 @@ ruleFor r t = ruleFrom (r .arity) t (concludedOf (r .conclude) t)
 -- an unknown bit is refusal 7, then more than four arguments 3
 unfoldable pub regularVerdict : Regular → Paper
 regularVerdict r =
-    choose (both (ltb (r .constructors .0) (2 ^ 13)) (ltb (r .scalars .0) (2 ^ 12)))
+    choose (both (ltb (r .constructors .0) (2 ^ constructorCount)) (ltb (r .scalars .0) (2 ^ scalarCount)))
     (choose (leb (r .arity) mostArguments) (accepted []) (refusal 3 0 []))
     (refusal 7 0 [])
 
@@ -70,15 +71,18 @@ regularVerdict r =
 unfoldable pub checkedRegular : Regular → Paper
 checkedRegular r = onVerdict (regularVerdict r) (accepted (regularValues r)) noSet
 
--- the rule of a type by itself: 7 where it is no value type, then the set's own refusal
-unfoldable pub regularRule : ℕ → Regular → Paper
-regularRule t r = choose (value? t) (onVerdict (regularVerdict r) (ruleFor r t) noRule) (refusal 7 0 noRule)
+-- the rule of a constructor and a scalar by itself: 7 at 0 or at 1 where one is unknown, then the set's own refusal
+unfoldable pub regularRule : ℕ → ℕ → Regular → Paper
+regularRule k s r =
+    choose (ltb k constructorCount)
+    (choose (ltb s scalarCount) (onVerdict (regularVerdict r) (ruleFor r (typeCode k s)) noRule) (refusal 7 1 noRule))
+    (refusal 7 0 noRule)
 
 unfoldable pub regularEmpty : Regular → Paper
-regularEmpty r = onVerdict (regularVerdict r) (emptyOf (regularRules r)) (255 ∷ [])
+regularEmpty r = onVerdict (regularVerdict r) (emptyOf (regularRules r)) (unused ∷ [])
 
 unfoldable pub regularCount : Regular → Paper
-regularCount r = onVerdict (regularVerdict r) (countOf (regularRules r)) (255 ∷ [])
+regularCount r = onVerdict (regularVerdict r) (countOf (regularRules r)) (unused ∷ [])
 
 -- a set by its parts: arity, masks of constructors and scalars, conclusion; and the set of no rules
 abbrev pub regularOf : ℕ → ℕ → ℕ → ConclusionRule → Regular
@@ -119,7 +123,7 @@ preferredAmong r (k ∷ []) (s ∷ ss) = ruleFor r (typeCode k s)
 preferredAmong r (k ∷ l ∷ ks) (s ∷ ss) = refusal 2 0 noRule
 
 unfoldable pub regularPreferred : Regular → Paper
-regularPreferred r = onVerdict (regularVerdict r) (preferredAmong r (bits 13 (r .constructors .0)) (bits 12 (r .scalars .0))) noRule
+regularPreferred r = onVerdict (regularVerdict r) (preferredAmong r (bits constructorCount (r .constructors .0)) (bits scalarCount (r .scalars .0))) noRule
 
 -- all rules in order; where one has no conclusion, refusal 13
 unfoldable pub allConclude : Regular → Bool

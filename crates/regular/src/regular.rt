@@ -4,37 +4,48 @@
 // there, so each public operation tests it first.
 
 ghost use mathlib.Core.Path.{_≡_};
-ghost use mathlib.Core.List.{map};
-ghost use Prim.Native.Nat.{_+_, _*_, _<_, _≤_};
+ghost use mathlib.Core.List.{[], _∷_, map};
+ghost use Prim.Native.Nat.{_≤_};
 ghost use Rattle.scalars.specs.Mask.{bits};
-ghost use Rattle.scalars.specs.Paper.{verdictPaper, testPaper, countPaper};
+ghost use Rattle.scalars.specs.Paper.{accepted, verdictPaper, testPaper, countPaper};
+ghost use Rattle.scalars.specs.Domain.{scalarCount};
+ghost use Rattle.types.specs.Constructor.{innerOf};
 ghost use Rattle.types.specs.TypePaper.{codePaper};
+ghost use Rattle.types.specs.TypeCode.{typeCode};
+ghost use Rattle.rules.specs.Rule.{mostArguments};
 ghost use Rattle.rules.specs.RulePaper.{rulePaper, listingPaper, typesPaper};
 ghost use Rattle.regular.specs.SetPaper.{setPaper, regularPaper};
-ghost use Rattle.regular.specs.Regular.{regularVerdict, regularEmpty, regularCount, regularArg, regularConcrete, regularPreferred, regularRule, regularListing, regularAllowed, emptySet?, narrowed, concreteSet, reachedScalars, concludedOf, ruleFor, codesOf};
-ghost use Rattle.regular.specs.private.Tested.{codesFound, RowFits, put, Known, concludedListing};
+ghost use Rattle.regular.specs.Regular.{regularVerdict, regularEmpty, regularCount, regularArg, regularConcrete, regularPreferred, regularRule, regularListing, regularAllowed, emptySet?, narrowed, concreteSet, reachedScalars, codesOf};
+ghost use Rattle.regular.specs.private.Tested.{codesFound, RowFits, put, Known, concludedListing, concludedFor, sizedRule};
 use rules::AllowedArgs;
+use rules::LONGEST_LISTING;
 use rules::Listing;
 use rules::MOST_ARGUMENTS;
+use rules::Predeclared;
 use rules::Rule;
 use rules::RuleAnswer;
+use rules::for_frexp_modf;
 use rules::no_codes;
 use rules::no_listing;
 use rules::no_rules;
 use rules::no_types;
+use scalars::BitStep;
 use scalars::CountAnswer;
+use scalars::OneBitsIter;
 use scalars::Refusal;
 use scalars::Scalar;
+use scalars::ScalarAnswer;
 use scalars::ScalarSet;
 use scalars::Test;
 use scalars::Verdict;
 use types::CodeAnswer;
 use types::Constructor;
 use types::ConstructorSet;
+use types::ConstructorSize;
 use types::LAST_CODE;
-use types::TypeParts;
-use types::VALUES;
-use types::code_of;
+use types::LeafScalar;
+use types::SizeAnswer;
+use types::leaf_scalar;
 
 pub struct Regular {
     // The number of arguments in the rules.
@@ -80,10 +91,10 @@ impl Regular {
     pub fn verdict(self) -> Verdict
         ensures { λ r. ⌜ verdictPaper r ≡ regularVerdict self ⌝ }
     {
-        if ConstructorSet::ALL < self.constructors.0 {
+        if ConstructorSet::ALL.0 < self.constructors.0 {
             return Verdict::Refused(Refusal::Unknown(0));
         }
-        if ScalarSet::ALL < self.scalars.0 {
+        if ScalarSet::ALL.0 < self.scalars.0 {
             return Verdict::Refused(Refusal::Unknown(0));
         }
         if MOST_ARGUMENTS < self.arity {
@@ -203,45 +214,54 @@ impl Regular {
         if self.holds_none() {
             return RuleAnswer::Refused(Refusal::EmptySet(0));
         }
-        if !self.constructors.is_singleton() {
-            return RuleAnswer::Refused(Refusal::SeveralConstructors);
+        match self.constructors.size() {
+            SizeAnswer::Refused(why) => RuleAnswer::Refused(why),
+            SizeAnswer::Size(size) => match self.scalars.most_general_scalar() {
+                ScalarAnswer::Refused(why) => RuleAnswer::Refused(why),
+                ScalarAnswer::Scalar(scalar) => self.rule(size, scalar),
+            },
         }
-        let k = u16::trailing_zeros(self.constructors.0) as u8;
-        let s = u16::trailing_zeros(self.scalars.0) as u8;
-        self.rule(k * 12 + s)
     }
 
-    // The rule whose arguments have the type. Refused 7 for a code that is no value type, then as the set is, then 13 where the rule has
-    // no conclusion.
-    pub fn rule_of(self, t: u8) -> RuleAnswer
-        ensures { λ r. ⌜ rulePaper r ≡ regularRule t self ⌝ }
+    // The rule whose arguments are of this constructor and this scalar. Refused 7 at 0 for an unknown constructor, at 1 for an unknown
+    // scalar; then as the set is, then 13 where the rule has no conclusion.
+    pub fn rule_of(self, constructor: Constructor, scalar: Scalar) -> RuleAnswer
+        ensures { λ r. ⌜ rulePaper r ≡ regularRule (constructor .0) (scalar .0) self ⌝ }
     {
-        if VALUES <= t {
-            return RuleAnswer::Refused(Refusal::Unknown(0));
+        match constructor.size() {
+            SizeAnswer::Refused(why) => RuleAnswer::Refused(why),
+            SizeAnswer::Size(size) => {
+                if Scalar::COUNT <= scalar.0 {
+                    return RuleAnswer::Refused(Refusal::Unknown(1));
+                }
+                match self.verdict() {
+                    Verdict::Refused(why) => RuleAnswer::Refused(why),
+                    Verdict::Accepted => self.rule(size, scalar),
+                }
+            }
         }
-        if let Verdict::Refused(why) = self.verdict() {
-            return RuleAnswer::Refused(why);
-        }
-        self.rule(t)
     }
 
-    // The same in a tested set, of a value type.
-    fn rule(self, t: u8) -> RuleAnswer
-        requires { ⌜ (self .arity ≤ 4) × (t < 156) ⌝ }
-        ensures { λ r. ⌜ rulePaper r ≡ ruleFor self t ⌝ }
+    // The rule of a tested set whose arguments have this size and scalar.
+    fn rule(self, size: ConstructorSize, scalar: Scalar) -> RuleAnswer
+        requires { ⌜ self .arity ≤ mostArguments ⌝ }
+        ensures { λ r. ⌜ rulePaper r ≡ sizedRule self size (scalar .0) ⌝ }
     {
         let n = self.arity;
         let conclusion = self.conclude;
-        match conclusion.conclude(t) {
+        match size.to_inner(scalar) {
             CodeAnswer::Refused(why) => RuleAnswer::Refused(why),
-            CodeAnswer::Code(result) => RuleAnswer::Rule(Rule {
-                a0: t,
-                a1: t,
-                a2: t,
-                a3: t,
-                count: n,
-                result: result,
-            }.cleaned()),
+            CodeAnswer::Code(t) => match conclusion.conclude(t, size, scalar) {
+                CodeAnswer::Refused(why) => RuleAnswer::Refused(why),
+                CodeAnswer::Code(result) => RuleAnswer::Rule(Rule {
+                    a0: t,
+                    a1: t,
+                    a2: t,
+                    a3: t,
+                    count: n,
+                    result: result,
+                }.cleaned()),
+            },
         }
     }
 
@@ -287,7 +307,11 @@ impl Regular {
         let mut rules = no_rules();
         let mut k: usize = 0;
         while k < count {
-            match self.rule(codes[k]) {
+            let code = codes[k];
+            match self.rule_of(
+                Constructor(code / Scalar::COUNT),
+                Scalar(code % Scalar::COUNT),
+            ) {
                 RuleAnswer::Refused(why) => {
                     return no_listing(why);
                 }
@@ -308,45 +332,55 @@ impl Regular {
         requires { ⌜ Known self ⌝ }
         ensures { λ r. ⌜ r ≡ codesFound (codesOf self) ⌝ }
     {
-        let scalars = self.scalars.0;
-        let mut rest = self.constructors.0;
+        let scalars = self.scalars;
         let mut found = Codes {
             codes: no_codes(),
             count: 0,
         };
-        while rest != 0 {
-            let k = u16::trailing_zeros(rest);
-            found = found.row(k as u8, scalars);
-            rest -= 1u16 << k;
+        let mut walk = OneBitsIter(self.constructors.0 as u64);
+        loop {
+            match walk.next() {
+                BitStep::Done => {
+                    return found;
+                }
+                BitStep::Bit(bit, rest) => {
+                    found = found.row(Constructor(bit.number().0), scalars);
+                    walk = rest;
+                }
+            }
         }
-        found
     }
 }
 
 // Argument types, and how many of them there are.
 struct Codes {
-    codes: [u8; 156],
+    codes: [u8; LONGEST_LISTING],
     count: usize,
 }
 
 impl Codes {
     // The types of one constructor over each scalar in turn, behind those found so far.
-    fn row(self, constructor: u8, scalars: u16) -> Codes
-        requires { ⌜ RowFits self constructor scalars ⌝ }
-        ensures { λ r. ⌜ r ≡ put self (map (λ s. constructor * 12 + s) (bits 12 scalars)) ⌝ }
+    fn row(self, constructor: Constructor, scalars: ScalarSet) -> Codes
+        requires { ⌜ RowFits self (constructor .0) (scalars .0) ⌝ }
+        ensures { λ r. ⌜ r ≡ put self (map (typeCode (constructor .0)) (bits scalarCount (scalars .0))) ⌝ }
     {
         let mut codes = self.codes;
         let mut count = self.count;
-        let mut rest = scalars;
-        while rest != 0 {
-            let s = u16::trailing_zeros(rest);
-            codes[count] = constructor * 12 + (s as u8);
-            count += 1;
-            rest -= 1u16 << s;
-        }
-        Codes {
-            codes: codes,
-            count: count,
+        let mut walk = OneBitsIter(scalars.0 as u64);
+        loop {
+            match walk.next() {
+                BitStep::Done => {
+                    return Codes {
+                        codes: codes,
+                        count: count,
+                    };
+                }
+                BitStep::Bit(bit, rest) => {
+                    codes[count] = constructor.0 * Scalar::COUNT + bit.number().0;
+                    count += 1;
+                    walk = rest;
+                }
+            }
         }
     }
 }
@@ -355,31 +389,30 @@ impl Codes {
 fn reached_scalars(t: u8) -> ScalarSet
     ensures { λ r. ⌜ r .0 ≡ reachedScalars t ⌝ }
 {
-    if VALUES <= t {
+    let LeafScalar::Scalar(scalar) = leaf_scalar(t) else {
         return ScalarSet::EMPTY;
-    }
-    ScalarSet::convertible_from(Scalar(t % 12))
+    };
+    ScalarSet::convertible_from(scalar)
 }
 
 impl ConclusionRule {
-    // The result type of a rule whose arguments have the type. Refused 13 where Frexp and Modf have no result.
-    fn conclude(self, t: u8) -> CodeAnswer
-        requires { ⌜ t < 156 ⌝ }
-        ensures { λ r. ⌜ codePaper r ≡ concludedOf self t ⌝ }
+    // The result type of a rule whose arguments have the type, which is of this size and scalar. Refused 13 where Frexp and Modf have
+    // no result.
+    fn conclude(self, t: u8, size: ConstructorSize, scalar: Scalar) -> CodeAnswer
+        requires { ⌜ innerOf size (scalar .0) ≡ accepted (t ∷ []) ⌝ }
+        ensures { λ r. ⌜ codePaper r ≡ concludedFor self size (scalar .0) ⌝ }
     {
-        let constructor = Constructor(t / 12);
-        let scalar = Scalar(t % 12);
         match self {
             ConclusionRule::ArgumentType => CodeAnswer::Code(t),
-            ConclusionRule::Scalar => CodeAnswer::Code(t % 12),
-            ConclusionRule::Frexp => code_of(TypeParts::Frexp(constructor, scalar)),
-            ConclusionRule::Modf => code_of(TypeParts::Modf(constructor, scalar)),
-            ConclusionRule::U32 => CodeAnswer::Code(5),
-            ConclusionRule::I32 => CodeAnswer::Code(2),
-            ConclusionRule::Vec2F => CodeAnswer::Code(20),
-            ConclusionRule::Vec4F => CodeAnswer::Code(44),
-            ConclusionRule::Vec4I => CodeAnswer::Code(38),
-            ConclusionRule::Vec4U => CodeAnswer::Code(41),
+            ConclusionRule::Scalar => ConstructorSize::Scalar.to_inner(scalar),
+            ConclusionRule::Frexp => for_frexp_modf(Predeclared::Frexp, size, scalar),
+            ConclusionRule::Modf => for_frexp_modf(Predeclared::Modf, size, scalar),
+            ConclusionRule::U32 => ConstructorSize::Scalar.to_inner(Scalar::U32),
+            ConclusionRule::I32 => ConstructorSize::Scalar.to_inner(Scalar::I32),
+            ConclusionRule::Vec2F => ConstructorSize::VEC2.to_inner(Scalar::F32),
+            ConclusionRule::Vec4F => ConstructorSize::VEC4.to_inner(Scalar::F32),
+            ConclusionRule::Vec4I => ConstructorSize::VEC4.to_inner(Scalar::I32),
+            ConclusionRule::Vec4U => ConstructorSize::VEC4.to_inner(Scalar::U32),
         }
     }
 }

@@ -17,6 +17,9 @@ use regular::ConclusionRule;
 use regular::Regular;
 use scalars::Verdict;
 
+// The most rules that are written out, by document 01.
+const MOST_EXPANDED: u32 = 63;
+
 // Where Frexp and Modf have no conclusion: the constructors MAT2X2 to MAT4X4, and the scalars but F32, F16 and F64.
 const MATRICES: u16 = 0b1_1111_1111_0000;
 
@@ -112,7 +115,7 @@ fn too_many(constructors: u16, scalars: u16) -> bool {
     if rows == 0 {
         return false;
     }
-    63 / rows < row
+    MOST_EXPANDED / rows < row
 }
 
 fn is_frexp_or_modf(conclusion: ConclusionRule) -> bool {

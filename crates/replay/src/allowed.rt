@@ -2,7 +2,7 @@
 
 use crate::records::wide;
 use crate::set_answers::allowed_agrees;
-use calls::list_of;
+use calls::full_list;
 use functions::FunctionSet;
 use functions::function_set;
 use lists::AnyAnswer;
@@ -17,10 +17,9 @@ pub fn agrees(record: &[u8]) -> bool {
     let i = wide(record[1]);
     let stored = &record[2..];
     match function_set(record[0]) {
-        FunctionSet::Unknown => false,
         FunctionSet::Regular(set) => set_agrees(AnyOverloadSet::from_regular(set), i, stored),
         FunctionSet::List(listed) => set_agrees(
-            AnyOverloadSet::from_list(list_of(listed)),
+            AnyOverloadSet::from_list(full_list(listed)),
             i,
             stored,
         ),

@@ -2,9 +2,9 @@
 
 use crate::answers::is_refusal;
 use crate::hand_made::any_of;
-use crate::hand_made::list_of;
-use crate::rule_records::RULE_BYTES;
+use crate::hand_made::list_in;
 use crate::set_answers::listing_agrees;
+use c_sets::RULE_BYTES;
 use scalars::Verdict;
 
 // Whether the rules are refused as stored, or taken, and listed as they stand there.
@@ -16,7 +16,7 @@ pub fn agrees(record: &[u8]) -> bool {
         return false;
     }
     let number = record[0];
-    let made = any_of(list_of(&record[1..]));
+    let made = any_of(list_in(&record[1..]));
     let verdict = made.answer;
     let set = made.set;
     match verdict {

@@ -11,16 +11,19 @@ use lists::ChosenAnswer;
 use rules::Rule;
 use rules::RuleAnswer;
 
+// The operands' types start here.
+const OPERANDS: usize = 12;
+
 // Whether the rules that survive, and the one that is chosen, are the stored ones.
 pub fn agrees(record: &[u8]) -> bool {
-    if record.len() < 12 {
+    if record.len() < OPERANDS {
         return false;
     }
     if 1 < record[1] {
         return false;
     }
     let switch = record[1] == 1;
-    let operands = &record[12..];
+    let operands = &record[OPERANDS..];
     if !survivors_agree(record[0], operands, switch, mask_of(record)) {
         return false;
     }

@@ -2,17 +2,19 @@
 // then the rules of a List.
 
 use crate::records::word;
-use crate::rule_records::RULE_BYTES;
-use c_sets::list_from;
+use c_sets::RULE_BYTES;
 use c_sets::regular_from;
-use lent_masks::lend_mask;
+use c_sets::rules_in;
 use lists::AnyAnswer;
 use lists::AnyOverloadSet;
+use lists::List;
 use lists::ListAnswer;
 use regular::Regular;
 use regular::RegularAnswer;
 use scalars::Refusal;
+use scalars::ScalarSet;
 use scalars::Verdict;
+use types::ConstructorSet;
 
 // The bytes of a Regular set.
 const REGULAR_BYTES: usize = 7;
@@ -42,7 +44,7 @@ pub fn made(bytes: &[u8]) -> AnyAnswer {
     if bytes.len() % RULE_BYTES != 1 {
         return no_set(Refusal::IllFormed(0));
     }
-    any_of(list_of(&bytes[1..]))
+    any_of(list_in(&bytes[1..]))
 }
 
 // The Regular set, or its refusal; 8 where the bytes are not as many.
@@ -50,7 +52,12 @@ fn regular_answer(bytes: &[u8]) -> RegularAnswer {
     if bytes.len() != REGULAR_BYTES {
         return RegularAnswer::Refused(Refusal::IllFormed(0));
     }
-    regular_from(bytes[1], mask_at(bytes, 2), mask_at(bytes, 4), bytes[6])
+    regular_from(
+        bytes[1],
+        ConstructorSet(mask_at(bytes, 2)),
+        ScalarSet(mask_at(bytes, 4)),
+        bytes[6],
+    )
 }
 
 // The Regular set; the empty one where it is refused.
@@ -66,20 +73,9 @@ fn mask_at(bytes: &[u8], at: usize) -> u16 {
     word(bytes, at) as u16
 }
 
-// The List of rules that stand one behind another, all of them members. The mask has room for 256 rules.
-pub fn list_of(bytes: &[u8]) -> ListAnswer {
-    let n = bytes.len() / RULE_BYTES;
-    let mut members = [0u8; 32];
-    lend_mask(all_of(n), n, &mut members);
-    list_from(bytes, &members)
-}
-
-// The mask of n members; none of more than a List takes.
-fn all_of(n: usize) -> u64 {
-    if 63 < n {
-        return 0;
-    }
-    std::num::wrapping_sub_u64(1u64 << n, 1)
+// The List of rules that stand one behind another, all of them members.
+pub fn list_in(bytes: &[u8]) -> ListAnswer {
+    List::from_rules(rules_in(bytes), bytes.len() / RULE_BYTES)
 }
 
 // A List's answer as one of either kind.

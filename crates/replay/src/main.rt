@@ -2,7 +2,7 @@
 //
 // Each list of answers is a file of data/ and a file of src/ under the same name, which holds one public function, `agrees`: whether our
 // answer to a record's question is the stored one. The lists of expressions, `worksheets`, `room` and `limits`, share `typings`.
-// `catalogue` names them all; `boundary` and `limits` hold document 01's answers in place of the crate's. docs/STORED.md says what the
+// `stored_lists` names them all; `boundary` and `limits` hold document 01's answers in place of the crate's. docs/STORED.md says what the
 // records hold.
 
 mod agreement;
@@ -10,7 +10,6 @@ mod allowed;
 mod answers;
 mod boundary;
 mod call_records;
-mod catalogue;
 mod combine;
 mod consensus;
 mod convertible;
@@ -23,23 +22,44 @@ mod refused;
 mod rule_records;
 mod set_answers;
 mod steps;
+mod stored_lists;
 mod tally;
 mod typings;
 mod walk;
 
-use catalogue::StoredList;
+use stored_lists::StoredList;
 use walk::replay;
 
 fn main() {
+    scalars();
+    sets();
+    calls();
+    expressions();
+}
+
+// Scalars: their combinations, conversions, named sets and consensus.
+fn scalars() {
     replay(StoredList::Combine, b"combine");
     replay(StoredList::Convertible, b"convertible");
     replay(StoredList::NamedSets, b"named_sets");
     replay(StoredList::Consensus, b"consensus");
+}
+
+// Sets made by hand.
+fn sets() {
     replay(StoredList::HandSets, b"handsets");
     replay(StoredList::Boundary, b"boundary");
+}
+
+// Calls of the functions.
+fn calls() {
     replay(StoredList::Calls, b"calls");
     replay(StoredList::Refused, b"refused");
     replay(StoredList::Allowed, b"allowed");
+}
+
+// Expressions.
+fn expressions() {
     replay(StoredList::Expressions, b"worksheets");
     replay(StoredList::Expressions, b"room");
     replay(StoredList::Expressions, b"limits");

@@ -1,9 +1,8 @@
 // A type rule as a record holds it: its four arguments, 255 for one that is not there, then how many there are, and its result.
 
+use c_sets::RULE_BYTES;
+use rules::LONGEST_LISTING;
 use rules::Rule;
-
-// The bytes of a rule.
-pub const RULE_BYTES: usize = 6;
 
 // The rule whose bytes start at `at`; the record of no rule where they are not all there.
 pub fn rule_at(bytes: &[u8], at: usize) -> Rule {
@@ -24,8 +23,8 @@ pub fn rule_at(bytes: &[u8], at: usize) -> Rule {
 }
 
 // Whether the first n rules are those that stand in the bytes, and no others do.
-pub fn rules_agree(rules: [Rule; 156], n: usize, bytes: &[u8]) -> bool {
-    if 156 < n {
+pub fn rules_agree(rules: [Rule; LONGEST_LISTING], n: usize, bytes: &[u8]) -> bool {
+    if LONGEST_LISTING < n {
         return false;
     }
     if bytes.len() != RULE_BYTES * n {

@@ -2,11 +2,12 @@
 
 use crate::answers::is_refusal;
 use crate::records::wide;
-use crate::rule_records::RULE_BYTES;
 use crate::rule_records::rule_at;
 use crate::rule_records::rules_agree;
 use crate::rule_records::same;
+use c_sets::RULE_BYTES;
 use lists::AnyOverloadSet;
+use rules::LONGEST_LISTING;
 use rules::RuleAnswer;
 use scalars::CountAnswer;
 use scalars::Refusal;
@@ -109,8 +110,8 @@ pub fn allowed_agrees(set: AnyOverloadSet, i: usize, stored: &[u8]) -> bool {
 }
 
 // Whether the first n types are the stored ones.
-fn codes_agree(codes: [u8; 156], n: usize, stored: &[u8]) -> bool {
-    if 156 < n {
+fn codes_agree(codes: [u8; LONGEST_LISTING], n: usize, stored: &[u8]) -> bool {
+    if LONGEST_LISTING < n {
         return false;
     }
     if stored.len() != n {

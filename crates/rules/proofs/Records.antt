@@ -6,8 +6,9 @@ use Prim.Native.Nat.{ℕ, zero, suc, _≤_, min}
 use native.Mathlib.Omega.{arith}
 use lib.Dec.{leb, ltb}
 use lib.ListN.{length, take, getD, replicate, length-take}
+use Rattle.scalars.specs.Paper.{unused}
 use Rattle.scalars.specs.Mask.{both, every}
-use Rattle.scalars.specs.Domain.{value?, known?, isAbstract}
+use Rattle.types.specs.Domain.{value?, known?, isAbstract}
 use Rattle.rules.specs.Signature.{Signature}
 use Rattle.rules.specs.Rule.{mostArguments, argumentsOf, signatureOf, ruleOf}
 use Rattle.rules.specs.declared.rule.Rule.{Rule}
@@ -31,7 +32,7 @@ typed? s = both (every value? (s .arguments)) (known? (s .result))
 abbrev pub zeroRule : Rule
 zeroRule = record { a0 = 0; a1 = 0; a2 = 0; a3 = 0; count = 0; result = 0 }
 
-four : (ts : List ℕ) → length ts ≤ 4 → take (length ts) (getD ts 0 255 ∷ getD ts 1 255 ∷ getD ts 2 255 ∷ getD ts 3 255 ∷ []) ≡ ts
+four : (ts : List ℕ) → length ts ≤ 4 → take (length ts) (getD ts 0 unused ∷ getD ts 1 unused ∷ getD ts 2 unused ∷ getD ts 3 unused ∷ []) ≡ ts
 four [] h = refl
 four (a ∷ []) h = refl
 four (a ∷ b ∷ []) h = refl

@@ -9,8 +9,10 @@ use lib.Dec.{eqb, leb, ltb}
 use lib.ListN.{length, take, getD, length-take, List·getD-eq-default}
 use lib.Seq.{getD-take}
 use borrow.Author.Tests.{le-leb, lt-leb, leb-true, leb-false, ltb-true, ne-eqb}
+use Rattle.scalars.specs.Paper.{unused}
 use Rattle.scalars.specs.Mask.{choose, both, either, every}
-use Rattle.scalars.specs.Domain.{converts, value?, known?, isAbstract}
+use Rattle.scalars.specs.Domain.{converts, scalarCount}
+use Rattle.types.specs.Domain.{value?, known?, isAbstract, otherType}
 use Rattle.rules.specs.Signature.{reaches, takesAt, takes, concrete}
 use Rattle.rules.proofs.Records.{allConcrete}
 use Rattle.rules.specs.Rule.{argumentsOf, signatureOf, knownRule}
@@ -58,36 +60,36 @@ each-concrete n a b c d =
     turn false y = refl
 
 -- no operand reaches the mark of an argument that is not there
-reaches-none : (t : ℕ) → reaches t 255 ≡ false
+reaches-none : (t : ℕ) → reaches t unused ≡ false
 unfolding reaches
-reaches-none t = go (ltb t 156) refl
+reaches-none t = go (ltb t otherType) refl
   where
-    go : (b : Bool) → ltb t 156 ≡ b → both (both b (eqb (t / 12) 21)) (both b (converts (t % 12) 3)) ≡ false
-    go true e = let l : t < 156 = ltb-true _ _ e in simp (ne-eqb (t / 12) 21 (λ z. absurd (omega arith)))
+    go : (b : Bool) → ltb t otherType ≡ b → both (both b (eqb (t / scalarCount) 21)) (both b (converts (t % scalarCount) 3)) ≡ false
+    go true e = let l : t < otherType = ltb-true _ _ e in simp (ne-eqb (t / scalarCount) 21 (λ z. absurd (omega arith)))
     go false e = refl
 
 -- the argument step's test, by the argument at the index
-takes-at : (i t : ℕ) (az : List ℕ) → takesAt i t az ≡ reaches t (getD az i 255)
+takes-at : (i t : ℕ) (az : List ℕ) → takesAt i t az ≡ reaches t (getD az i unused)
 takes-at i t [] = sym (reaches-none t)
 takes-at zero t (a ∷ az) = refl
 takes-at (suc i) t (a ∷ az) = takes-at i t az
 
 -- the same of a rule's record
 module _ (r : Rule) where
-  pub argument-at : (i : ℕ) → getD (argumentsOf r) i 255 ≡ choose (leb (r .count) i) 255 (getD (r .a0 ∷ r .a1 ∷ r .a2 ∷ r .a3 ∷ []) i 255)
+  pub argument-at : (i : ℕ) → getD (argumentsOf r) i unused ≡ choose (leb (r .count) i) unused (getD (r .a0 ∷ r .a1 ∷ r .a2 ∷ r .a3 ∷ []) i unused)
   unfolding argumentsOf
-  argument-at i = taken-at (r .count) (r .a0 ∷ r .a1 ∷ r .a2 ∷ r .a3 ∷ []) i 255
+  argument-at i = taken-at (r .count) (r .a0 ∷ r .a1 ∷ r .a2 ∷ r .a3 ∷ []) i unused
 
-  pub argument-here : (i k : ℕ) → i ≡ k → i < r .count → getD (argumentsOf r) i 255 ≡ getD (r .a0 ∷ r .a1 ∷ r .a2 ∷ r .a3 ∷ []) k 255
+  pub argument-here : (i k : ℕ) → i ≡ k → i < r .count → getD (argumentsOf r) i unused ≡ getD (r .a0 ∷ r .a1 ∷ r .a2 ∷ r .a3 ∷ []) k unused
   argument-here i k e h =
-      argument-at i ∙ ap (λ (b : Bool). choose b 255 (getD (r .a0 ∷ r .a1 ∷ r .a2 ∷ r .a3 ∷ []) i 255)) (lt-leb (r .count) i h)
-      ∙ ap (λ (j : ℕ). getD (r .a0 ∷ r .a1 ∷ r .a2 ∷ r .a3 ∷ []) j 255) e
+      argument-at i ∙ ap (λ (b : Bool). choose b unused (getD (r .a0 ∷ r .a1 ∷ r .a2 ∷ r .a3 ∷ []) i unused)) (lt-leb (r .count) i h)
+      ∙ ap (λ (j : ℕ). getD (r .a0 ∷ r .a1 ∷ r .a2 ∷ r .a3 ∷ []) j unused) e
 
-  pub argument-past : (i : ℕ) → r .count ≤ i → getD (argumentsOf r) i 255 ≡ 255
-  argument-past i h = argument-at i ∙ ap (λ (b : Bool). choose b 255 (getD (r .a0 ∷ r .a1 ∷ r .a2 ∷ r .a3 ∷ []) i 255)) (le-leb (r .count) i h)
+  pub argument-past : (i : ℕ) → r .count ≤ i → getD (argumentsOf r) i unused ≡ unused
+  argument-past i h = argument-at i ∙ ap (λ (b : Bool). choose b unused (getD (r .a0 ∷ r .a1 ∷ r .a2 ∷ r .a3 ∷ []) i unused)) (le-leb (r .count) i h)
 
-  pub argument-fifth : (i : ℕ) → i < r .count → 3 < i → getD (argumentsOf r) i 255 ≡ 255
-  argument-fifth i h l = argument-here i i refl h ∙ List·getD-eq-default (r .a0 ∷ r .a1 ∷ r .a2 ∷ r .a3 ∷ []) 255 {n = i} l
+  pub argument-fifth : (i : ℕ) → i < r .count → 3 < i → getD (argumentsOf r) i unused ≡ unused
+  argument-fifth i h l = argument-here i i refl h ∙ List·getD-eq-default (r .a0 ∷ r .a1 ∷ r .a2 ∷ r .a3 ∷ []) unused {n = i} l
 
   pub known-four : knownRule r
       ≡ both (both (either (leb (r .count) 0) (value? (r .a0))) (both (either (leb (r .count) 1) (value? (r .a1)))
@@ -101,7 +103,7 @@ module _ (r : Rule) where
   unfolding argumentsOf
   concrete-four = each-concrete (r .count) (r .a0) (r .a1) (r .a2) (r .a3)
 
-  pub takes-argument : (i t : ℕ) → takes i t (signatureOf r) ≡ reaches t (getD (argumentsOf r) i 255)
+  pub takes-argument : (i t : ℕ) → takes i t (signatureOf r) ≡ reaches t (getD (argumentsOf r) i unused)
   takes-argument i t = takes-at i t (argumentsOf r)
 
   pub count-of : length (argumentsOf r) ≡ min (r .count) 4
@@ -109,8 +111,8 @@ module _ (r : Rule) where
   count-of = length-take (r .count) (r .a0 ∷ r .a1 ∷ r .a2 ∷ r .a3 ∷ [])
 
   -- an argument, by the number of those that four fields hold
-  pub argument-held : (i : ℕ) → i < 4 → getD (argumentsOf r) i 255 ≡ choose (leb (min (r .count) 4) i) 255 (getD (r .a0 ∷ r .a1 ∷ r .a2 ∷ r .a3 ∷ []) i 255)
-  argument-held i h = argument-at i ∙ ap (λ (b : Bool). choose b 255 (getD (r .a0 ∷ r .a1 ∷ r .a2 ∷ r .a3 ∷ []) i 255)) (go (leb (r .count) i) refl)
+  pub argument-held : (i : ℕ) → i < 4 → getD (argumentsOf r) i unused ≡ choose (leb (min (r .count) 4) i) unused (getD (r .a0 ∷ r .a1 ∷ r .a2 ∷ r .a3 ∷ []) i unused)
+  argument-held i h = argument-at i ∙ ap (λ (b : Bool). choose b unused (getD (r .a0 ∷ r .a1 ∷ r .a2 ∷ r .a3 ∷ []) i unused)) (go (leb (r .count) i) refl)
     where
       go : (b : Bool) → leb (r .count) i ≡ b → b ≡ leb (min (r .count) 4) i
       go true e = sym (le-leb (min (r .count) 4) i (omega (arith, leb-true (r .count) i e)))

@@ -1,16 +1,16 @@
 -- A rule as a record of four argument codes, a count and a result. Its meaning is the list of its arguments and its result: fields
--- not in use are never read, and hold 255 in answers.
+-- not in use are never read, and hold `unused` in answers.
 use mathlib.Core.Bool.{Bool}
 use mathlib.Core.List.{List, [], _∷_}
 use Prim.Native.Nat.{ℕ}
 use lib.Dec.{leb}
 use lib.ListN.{length, take, getD}
 use Rattle.scalars.specs.Mask.{choose, both, every}
-use Rattle.scalars.specs.Domain.{value?, known?}
+use Rattle.types.specs.Domain.{value?, known?}
 use Rattle.rules.specs.Signature.{Signature, typeAt, takes, concrete}
 use Rattle.types.specs.Constructor.{constructorOf}
 use Rattle.types.specs.TypeCode.{predeclaredCode, firstModf, firstFrexp}
-use Rattle.scalars.specs.Paper.{Paper, accepted, refusal, whenAccepted}
+use Rattle.scalars.specs.Paper.{Paper, accepted, refusal, whenAccepted, unused}
 use Rattle.rules.specs.RulePaper.{ruleValues, noRule}
 use Rattle.rules.specs.declared.rule.Rule.{Rule}
 use Rattle.rules.specs.declared.rule.Keep.{Keep}
@@ -29,12 +29,12 @@ argumentsOf r = take (r .count) (r .a0 ∷ r .a1 ∷ r .a2 ∷ r .a3 ∷ [])
 abbrev pub signatureOf : Rule → Signature
 signatureOf r = record { arguments = argumentsOf r; result = r .result }
 
--- the record of a rule, with 255 in the fields not in use
+-- the record of a rule, with `unused` in the fields not in use
 unfoldable pub ruleOf : Signature → Rule
 ruleOf s = record { a0 = typeAt 0 s; a1 = typeAt 1 s; a2 = typeAt 2 s; a3 = typeAt 3 s; count = length (s .arguments); result = s .result }
 
 abbrev pub blankRule : Rule
-blankRule = record { a0 = 255; a1 = 255; a2 = 255; a3 = 255; count = 255; result = 255 }
+blankRule = record { a0 = unused; a1 = unused; a2 = unused; a3 = unused; count = unused; result = unused }
 
 -- the arguments are value types, and the result is a type
 unfoldable pub knownRule : Rule → Bool
@@ -61,4 +61,4 @@ firstCode Modf = firstModf
 firstCode Frexp = firstFrexp
 
 unfoldable pub predeclaredOf : Predeclared → ConstructorSize → ℕ → Paper
-predeclaredOf f z s = whenAccepted (constructorOf z) (λ vs. predeclaredCode (firstCode f) (getD vs 0 255) s) (255 ∷ [])
+predeclaredOf f z s = whenAccepted (constructorOf z) (λ vs. predeclaredCode (firstCode f) (getD vs 0 unused) s) (unused ∷ [])

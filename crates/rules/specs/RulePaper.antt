@@ -1,7 +1,7 @@
 -- The paper's number, place and values for an answer about a rule, and for what a set lists.
 use mathlib.Core.List.{List, [], _∷_, _++_}
 use Prim.Native.Nat.{ℕ}
-use Rattle.scalars.specs.Paper.{Paper, accepted, refused, beside, countPaper}
+use Rattle.scalars.specs.Paper.{Paper, accepted, refused, beside, countPaper, unused}
 use Rattle.rules.specs.declared.rule.Rule.{Rule}
 use Rattle.rules.specs.declared.rule.RuleAnswer.{RuleAnswer}
 use Rattle.rules.specs.declared.rule.RuleAnswer.the-variants as rule
@@ -14,7 +14,7 @@ abbrev pub ruleValues : Rule → List ℕ
 ruleValues r = r .a0 ∷ r .a1 ∷ r .a2 ∷ r .a3 ∷ r .count ∷ r .result ∷ []
 
 abbrev pub noRule : List ℕ
-noRule = 255 ∷ 255 ∷ 255 ∷ 255 ∷ 255 ∷ 255 ∷ []
+noRule = unused ∷ unused ∷ unused ∷ unused ∷ unused ∷ unused ∷ []
 
 abbrev pub rulePaper : RuleAnswer → Paper
 rulePaper (rule.Rule r) = accepted (ruleValues r)

@@ -4,17 +4,19 @@ use mathlib.Core.List.{List, [], _∷_}
 use Prim.Native.Nat.{ℕ, zero, suc}
 use lib.Dec.{eqb}
 use lib.ListN.{getD}
+use Rattle.scalars.specs.Paper.{unused}
 use Rattle.scalars.specs.Mask.{both, every}
-use Rattle.scalars.specs.Domain.{value?, constructorPart, scalarPart, converts, isAbstract}
+use Rattle.scalars.specs.Domain.{converts}
+use Rattle.types.specs.Domain.{value?, constructorPart, scalarPart, isAbstract}
 
 -- a rule's meaning: the types of its arguments, and its result
 pub record Signature : Type 0 where
   pub arguments : List ℕ
   pub result : ℕ
 
--- the type at an argument; 255 where there is none
+-- the type at an argument; `unused` where there is none
 abbrev pub typeAt : ℕ → Signature → ℕ
-typeAt i r = getD (r .arguments) i 255
+typeAt i r = getD (r .arguments) i unused
 
 -- the operand's constructor is the argument's
 abbrev pub sameShape : ℕ → ℕ → Bool

@@ -3,7 +3,7 @@ use mathlib.Core.List.{List, [], _∷_}
 use Prim.Native.Nat.{ℕ, max}
 use lib.ListN.{length}
 use Rattle.rules.specs.Signature.{Signature}
-use Rattle.scalars.specs.Paper.{Paper, accepted, refusal, whenAccepted}
+use Rattle.scalars.specs.Paper.{Paper, accepted, refusal, whenAccepted, unused}
 
 -- what is answered of a set that is accepted, or its refusal with these values
 abbrev pub onVerdict : Paper → Paper → List ℕ → Paper
@@ -21,5 +21,5 @@ longest (r ∷ rs) = max (length (r .arguments)) (longest rs)
 
 -- both counts are the longest member's; of no rules, refusal 1
 abbrev pub countOf : List Signature → Paper
-countOf [] = refusal 1 0 (255 ∷ [])
+countOf [] = refusal 1 0 (unused ∷ [])
 countOf (r ∷ rs) = accepted (longest (r ∷ rs) ∷ [])

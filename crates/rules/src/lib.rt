@@ -5,6 +5,7 @@ mod listing;
 mod rule;
 
 pub use listing::AllowedArgs;
+pub use listing::LONGEST_LISTING;
 pub use listing::Listing;
 pub use listing::no_codes;
 pub use listing::no_listing;
@@ -15,6 +16,5 @@ pub use rule::MOST_ARGUMENTS;
 pub use rule::Predeclared;
 pub use rule::Rule;
 pub use rule::RuleAnswer;
-pub use rule::UNUSED;
 pub use rule::for_frexp_modf;
 pub use rule::reaches;

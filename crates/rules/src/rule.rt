@@ -1,7 +1,7 @@
 // Type rules: the types of a rule's arguments, and its conclusion.
 //
 // The crate holds a vector of arguments. A rule here is a small record of four argument codes, their count and a result code; its
-// meaning is the list of its arguments and its result. Fields not in use are never read, and hold 255 in answers.
+// meaning is the list of its arguments and its result. Fields not in use are never read, and hold `UNUSED` in answers.
 
 ghost use mathlib.Core.Path.{_≡_};
 ghost use mathlib.Core.Bool.{not};
@@ -9,28 +9,29 @@ ghost use Prim.Native.Nat.{min};
 ghost use lib.Dec.{leb};
 ghost use lib.ListN.{length, getD};
 ghost use Rattle.scalars.specs.Mask.{choose, both, either};
-ghost use Rattle.scalars.specs.Domain.{value?, isAbstract};
+ghost use Rattle.scalars.specs.Paper.{unused};
+ghost use Rattle.types.specs.Domain.{value?, isAbstract};
 ghost use Rattle.rules.specs.Signature.{reaches, takes, concrete};
 ghost use Rattle.types.specs.TypePaper.{codePaper};
 ghost use Rattle.rules.specs.RulePaper.{rulePaper};
-ghost use Rattle.rules.specs.Rule.{argumentsOf, signatureOf, ruleOf, checkedRule, knownRule, predeclaredOf, passes};
+ghost use Rattle.rules.specs.Rule.{argumentsOf, signatureOf, ruleOf, checkedRule, knownRule, predeclaredOf, passes, mostArguments};
 use scalars::Refusal;
 use scalars::Scalar;
 use scalars::ScalarSet;
+use scalars::UNUSED;
 use types::CodeAnswer;
 use types::ConstructorAnswer;
 use types::ConstructorSize;
 use types::LAST_CODE;
+use types::LeafScalar;
 use types::TypeParts;
 use types::VALUES;
 use types::code_of;
 use types::is_abstract;
+use types::leaf_scalar;
 
 // The most arguments of a rule.
 pub const MOST_ARGUMENTS: u8 = 4;
-
-// What a field not in use holds.
-pub const UNUSED: u8 = 255;
 
 pub struct Rule {
     pub a0: u8,
@@ -62,15 +63,15 @@ pub enum Predeclared {
 impl Rule {
     // The record of no rule.
     pub const BLANK: Rule = Rule {
-        a0: 255,
-        a1: 255,
-        a2: 255,
-        a3: 255,
-        count: 255,
-        result: 255,
+        a0: UNUSED,
+        a1: UNUSED,
+        a2: UNUSED,
+        a3: UNUSED,
+        count: UNUSED,
+        result: UNUSED,
     };
 
-    // The rule with 255 in the fields not in use. Refused 7 for an unknown code, then 3 for more than four arguments.
+    // The rule with `UNUSED` in the fields not in use. Refused 7 for an unknown code, then 3 for more than four arguments.
     pub fn checked(self) -> RuleAnswer
         ensures { λ r. ⌜ rulePaper r ≡ checkedRule self ⌝ }
     {
@@ -103,7 +104,7 @@ impl Rule {
         self.result <= LAST_CODE
     }
 
-    // The rule with 255 in the fields not in use. A rule has no more arguments than fields, whatever its count says.
+    // The rule with `UNUSED` in the fields not in use. A rule has no more arguments than fields, whatever its count says.
     pub fn cleaned(self) -> Rule
         ensures { λ r. ⌜ r ≡ ruleOf (signatureOf self) ⌝ }
     {
@@ -142,9 +143,9 @@ impl Rule {
         reaches(t, self.argument(i))
     }
 
-    // The argument at an index; 255 where there is none.
+    // The argument at an index; `UNUSED` where there is none.
     pub fn argument(self, i: usize) -> u8
-        ensures { λ r. ⌜ r ≡ getD (argumentsOf self) i 255 ⌝ }
+        ensures { λ r. ⌜ r ≡ getD (argumentsOf self) i unused ⌝ }
     {
         let n = self.count;
         if (n as usize) <= i {
@@ -187,13 +188,16 @@ impl Rule {
 pub fn reaches(t: u8, a: u8) -> bool
     ensures { λ r. ⌜ r ≡ reaches t a ⌝ }
 {
-    if VALUES <= t {
+    let LeafScalar::Scalar(from) = leaf_scalar(t) else {
+        return false;
+    };
+    let LeafScalar::Scalar(to) = leaf_scalar(a) else {
+        return false;
+    };
+    if t / Scalar::COUNT != a / Scalar::COUNT {
         return false;
     }
-    if t / 12 != a / 12 {
-        return false;
-    }
-    ScalarSet::convertible_from(Scalar(t % 12)).contains(Scalar(a % 12))
+    ScalarSet::convertible_from(from).contains(to)
 }
 
 // Whether an argument is not there, or is a value type.
@@ -218,7 +222,7 @@ fn abstract_at(count: u8, i: u8, a: u8) -> bool
 
 // How many arguments of a count the four fields hold.
 fn held(count: u8) -> u8
-    ensures { λ r. ⌜ r ≡ min count 4 ⌝ }
+    ensures { λ r. ⌜ r ≡ min count mostArguments ⌝ }
 {
     if MOST_ARGUMENTS < count {
         return MOST_ARGUMENTS;
@@ -226,9 +230,9 @@ fn held(count: u8) -> u8
     count
 }
 
-// An argument, or 255 where it is not there.
+// An argument, or `UNUSED` where it is not there.
 fn used(count: u8, i: u8, a: u8) -> u8
-    ensures { λ r. ⌜ r ≡ choose (leb count i) 255 a ⌝ }
+    ensures { λ r. ⌜ r ≡ choose (leb count i) unused a ⌝ }
 {
     if count <= i {
         return UNUSED;

@@ -11,7 +11,7 @@ use lib.Arith.{lt-one}
 use lib.Count.{ones, trailingZeros, trailing-of-zero}
 use lib.ListN.{length, getD}
 use Rattle.scalars.specs.Mask.{consIf, odd, select, filter, sift, countFrom, upTo, bits, maskOf, headOr}
-use Rattle.scalars.proofs.Masks.{half-lt, two, select-none, select-length, select-count, sift-lt, Turn, turn}
+use Rattle.scalars.proofs.Masks.{half-lt, two, select-none, select-length, select-count, select-turn, trailing-lt, sift-lt}
 use Rattle.scalars.proofs.Sifts.{select-sift}
 
 pub count-length : (i n : ℕ) → length (countFrom i n) ≡ n
@@ -73,20 +73,12 @@ unfolding bits
 mask-filter p n m =
     ap maskOf (sym (select-sift p (upTo n) m)) ∙ mask-bits n (sift p (upTo n) m) (sift-lt p (upTo n) m (upTo-length n))
 
--- a walk over the bits of a word of w bits: the lowest bit's number, then the bits of the rest
-pub bits-turn : (w n m : ℕ) → n ≤ w → 0 < m → m < 2 ^ n → Turn w 0 (upTo n) m ((1 * 2 ^ trailingZeros w m) % 2 ^ w)
+-- the lowest bit's number, then the bits of the rest
+pub bits-next : (w n m : ℕ) → n ≤ w → 0 < m → m < 2 ^ n → bits n m ≡ trailingZeros w m ∷ bits n (m - 2 ^ trailingZeros w m)
 unfolding bits
-bits-turn w n m l q h =
-    turn w 0 (upTo n) m (subst⁻¹ (λ (k : ℕ). k ≤ w) (upTo-length n) l) q (subst⁻¹ (λ (k : ℕ). m < 2 ^ k) (upTo-length n) h)
-
-pub bits-first : (w n m : ℕ) → n ≤ w → 0 < m → m < 2 ^ n
-    → bits n m ≡ trailingZeros w m ∷ bits n (m - (1 * 2 ^ trailingZeros w m) % 2 ^ w)
-unfolding bits
-bits-first w n m l q h =
-    let t = bits-turn w n m l q h in
-    t .members
-    ∙ ap (λ (k : ℕ). k ∷ bits n (m - (1 * 2 ^ trailingZeros w m) % 2 ^ w))
-    (upTo-at n (trailingZeros w m) (subst (λ (k : ℕ). trailingZeros w m < k) (upTo-length n) (t .below)))
+bits-next w n m l q h =
+    select-turn 0 (upTo n) w m (subst⁻¹ (λ (k : ℕ). k ≤ w) (upTo-length n) l) q (subst⁻¹ (λ (k : ℕ). m < 2 ^ k) (upTo-length n) h)
+    ∙ ap (λ (k : ℕ). k ∷ bits n (m - 2 ^ trailingZeros w m)) (upTo-at n (trailingZeros w m) (trailing-lt n w m l q h))
 
 pub bits-none : (n : ℕ) → bits n 0 ≡ []
 unfolding bits
@@ -102,7 +94,7 @@ pub bits-lowest : (w m : ℕ) → m < 2 ^ w → headOr w (bits w m) ≡ trailing
 bits-lowest w m h = go (ltb 0 m) refl
   where
     go : (b : Bool) → ltb 0 m ≡ b → headOr w (bits w m) ≡ trailingZeros w m
-    go true e = ap (headOr w) (bits-first w w m (le-refl w) (ltb-true 0 m e) h)
+    go true e = ap (headOr w) (bits-next w w m (le-refl w) (ltb-true 0 m e) h)
     go false e =
         let z : m ≡ 0 = omega (arith, ltb-false 0 m e) in
         ap (λ (x : ℕ). headOr w (bits w x)) z ∙ ap (headOr w) (bits-none w) ∙ sym (ap (trailingZeros w) z ∙ trailing-of-zero w)

@@ -5,6 +5,7 @@ pub mod Sifts
 pub mod Masks
 pub mod Meets
 pub mod Bits
+pub mod Walks
 pub mod Fills
 pub mod Scalars
 pub mod Papers

@@ -190,28 +190,3 @@ module _ {A : Type 0} (p : A → Bool) where
           ap₂ (λ (h l : ℕ). sift p xs h * 2 + digit (both (eqb l 1) (p x))) (odd-half m e) (odd-even m e) ∙ add-zero _ in
           omega (arith, s, gain-one (p x))
       go (suc (suc r)) e ih = two m r e
-
--- what one turn of a walk over the members of a mask of w bits needs of a member's number and of its bit, `1 << n`
-pub record Turn (w : ℕ) {A : Type 0} (d : A) (xs : List A) (m b : ℕ) : Type 0 where
-  pub below : trailingZeros w m < length xs
-  pub within : trailingZeros w m < w
-  pub part : b ≤ m
-  pub some : 0 < b
-  pub less : m - b < 2 ^ length xs
-  pub members : select xs m ≡ getD xs (trailingZeros w m) d ∷ select xs (m - b)
-  pub step : (p : A → Bool) → sift p xs m ≡ gain (p (getD xs (trailingZeros w m) d)) b + sift p xs (m - b)
-
-pub turn : (w : ℕ) {A : Type 0} (d : A) (xs : List A) (m : ℕ) → length xs ≤ w → 0 < m → m < 2 ^ length xs
-    → Turn w d xs m ((1 * 2 ^ trailingZeros w m) % 2 ^ w)
-turn w d xs m l q h =
-    let t = trailingZeros w m in
-    let i : t < length xs = trailing-lt (length xs) w m l q h in
-    subst⁻¹ (λ (b : ℕ). Turn w d xs m b) (bit-is w t (lt-of-lt-of-le i l)) record {
-      below = i;
-      within = lt-of-lt-of-le i l;
-      part = trailing-part w m q (lt-of-lt-of-le h (pow-mono l));
-      some = pow-pos t;
-      less = omega arith;
-      members = select-turn d xs w m l q h;
-      step = λ p. sift-turn p d xs w m l q h;
-    }

@@ -8,7 +8,7 @@ use lib.Dec.{eqb}
 use lib.ListN.{getD}
 use Rattle.scalars.specs.Mask.{choose}
 use Rattle.scalars.specs.Refusal.{numbered}
-use Rattle.scalars.specs.Paper.{Paper, accepted, refusal, values, refused, beside, verdictPaper, testPaper, countPaper, scalarPaper, walkPaper, membersPaper}
+use Rattle.scalars.specs.Paper.{Paper, accepted, refusal, unused, values, refused, beside, verdictPaper, testPaper, countPaper, scalarPaper, walkPaper, membersPaper}
 use Rattle.scalars.specs.declared.refusal.Refusal.{Refusal}
 use Rattle.scalars.specs.declared.refusal.Refusal.the-variants.{EmptySet, SeveralConstructors, TooMany, NoSuchArgument, WrongCount, NoRuleLeft, Unknown, IllFormed, TooLarge, NoRoom, NothingToCombine, NoConsensus, NoConclusion}
 use Rattle.scalars.specs.declared.answer.Verdict.{Verdict}
@@ -95,7 +95,7 @@ test-back : (a : Test) → read testIn test.Refused (testPaper a) ≡ a
 unfolding read
 test-back test.Yes = refl
 test-back test.No = refl
-test-back (test.Refused why) = reads-refused testIn test.Refused why (255 ∷ [])
+test-back (test.Refused why) = reads-refused testIn test.Refused why (unused ∷ [])
 
 pub test-one : (a b : Test) → testPaper a ≡ testPaper b → a ≡ b
 test-one = one-to-one testPaper (read testIn test.Refused) test-back
@@ -106,7 +106,7 @@ countIn vs = count.Count (getD vs 0 0)
 count-back : (a : CountAnswer) → read countIn count.Refused (countPaper a) ≡ a
 unfolding read
 count-back (count.Count n) = refl
-count-back (count.Refused why) = reads-refused countIn count.Refused why (255 ∷ [])
+count-back (count.Refused why) = reads-refused countIn count.Refused why (unused ∷ [])
 
 pub count-one : (a b : CountAnswer) → countPaper a ≡ countPaper b → a ≡ b
 count-one = one-to-one countPaper (read countIn count.Refused) count-back
@@ -117,7 +117,7 @@ scalarIn vs = scalar.Scalar (record { 0 = getD vs 0 0 })
 scalar-back : (a : ScalarAnswer) → read scalarIn scalar.Refused (scalarPaper a) ≡ a
 unfolding read
 scalar-back (scalar.Scalar s) = refl
-scalar-back (scalar.Refused why) = reads-refused scalarIn scalar.Refused why (255 ∷ [])
+scalar-back (scalar.Refused why) = reads-refused scalarIn scalar.Refused why (unused ∷ [])
 
 pub scalar-one : (a b : ScalarAnswer) → scalarPaper a ≡ scalarPaper b → a ≡ b
 scalar-one = one-to-one scalarPaper (read scalarIn scalar.Refused) scalar-back

@@ -12,12 +12,12 @@ use Rattle.scalars.specs.Domain.{scalars, converts}
 use Rattle.scalars.specs.Paper.{accepted}
 use Rattle.scalars.specs.Scalar.{mostGeneral, member, singletonOf, convertibleFrom}
 use Rattle.scalars.proofs.Table.{at, every, same, same→eq}
-use Rattle.scalars.proofs.Bits.{bits-first}
+use Rattle.scalars.proofs.Bits.{bits-next}
 
 -- the preferred scalar, by counting trailing zeros
 pub lowest : (m : ℕ) → 0 < m → m < 2 ^ 12 → mostGeneral m ≡ accepted (trailingZeros 16 m ∷ [])
 unfolding mostGeneral
-lowest m p h = simp (lt-ltb _ _ h, bits-first 16 12 m (lit≤ tt) p h)
+lowest m p h = simp (lt-ltb _ _ h, bits-next 16 12 m (lit≤ tt) p h)
 
 -- the set of one scalar, as a shift gives it
 pub single : (k : ℕ) → k < 12 → (1 * 2 ^ k) % 2 ^ 16 ≡ singletonOf k

@@ -1,5 +1,5 @@
 -- 'What each answer must determine': the number, the place and the values that the paper gives to each case of an answer. Accepted is
--- number 0 at place 0; a value that a refusal leaves out is 255, and a set is the empty one.
+-- number 0 at place 0; a value that a refusal leaves out is `unused`, and a set is the empty one.
 use mathlib.Core.List.{List, [], _∷_, _++_}
 use Prim.Native.Nat.{ℕ}
 use lib.ListN.{getD}
@@ -22,6 +22,10 @@ pub data Paper : Type 0 where
   accepted : List ℕ → Paper
   refusal : ℕ → ℕ → List ℕ → Paper
 
+-- what a value, a field or an entry not in use holds
+abbrev pub unused : ℕ
+unused = 255
+
 abbrev pub number : Paper → ℕ
 number (accepted vs) = 0
 number (refusal n p vs) = n
@@ -39,7 +43,7 @@ refused why vs = refusal (numbered why .0) (numbered why .1) vs
 
 -- a value, counted from 0
 abbrev pub value : ℕ → Paper → ℕ
-value k p = getD (values p) k 255
+value k p = getD (values p) k unused
 
 -- what follows from an answer that is accepted, or its refusal with these values
 abbrev pub whenAccepted : Paper → (List ℕ → Paper) → List ℕ → Paper
@@ -60,15 +64,15 @@ verdictPaper (verdict.Refused why) = refused why []
 abbrev pub testPaper : Test → Paper
 testPaper test.Yes = accepted (1 ∷ [])
 testPaper test.No = accepted (0 ∷ [])
-testPaper (test.Refused why) = refused why (255 ∷ [])
+testPaper (test.Refused why) = refused why (unused ∷ [])
 
 abbrev pub countPaper : CountAnswer → Paper
 countPaper (count.Count n) = accepted (n ∷ [])
-countPaper (count.Refused why) = refused why (255 ∷ [])
+countPaper (count.Refused why) = refused why (unused ∷ [])
 
 abbrev pub scalarPaper : ScalarAnswer → Paper
 scalarPaper (scalar.Scalar s) = accepted (s .0 ∷ [])
-scalarPaper (scalar.Refused why) = refused why (255 ∷ [])
+scalarPaper (scalar.Refused why) = refused why (unused ∷ [])
 
 -- ---- a step of a walk: the bit's mask and the bits after it, or nothing
 

@@ -3,6 +3,9 @@
 
 use crate::refusal::Refusal;
 
+// What a field or an entry not in use holds.
+pub const UNUSED: u8 = 255;
+
 // Whether an input is accepted; the value stands beside it.
 pub enum Verdict {
     Accepted,

@@ -8,6 +8,7 @@ mod scalar_set;
 
 pub use answer::CountAnswer;
 pub use answer::Test;
+pub use answer::UNUSED;
 pub use answer::Verdict;
 pub use one_bits_iter::BitNumber;
 pub use one_bits_iter::BitStep;

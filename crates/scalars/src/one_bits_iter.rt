@@ -8,6 +8,7 @@ ghost use Rattle.scalars.specs.Mask.{bits, headOr};
 ghost use Rattle.scalars.specs.OneBits.{stepOf, listed, unlisted};
 ghost use Rattle.scalars.specs.Paper.{walkPaper, membersPaper};
 use crate::answer::CountAnswer;
+use crate::answer::UNUSED;
 use crate::refusal::Refusal;
 
 // The bits that are still to come.
@@ -25,7 +26,7 @@ pub enum BitStep {
     Done,
 }
 
-// The members of a set of at most 16: how many, and beside that their numbers, lowest first; entries not in use hold 255.
+// The members of a set of at most 16: how many, and beside that their numbers, lowest first; entries not in use hold `UNUSED`.
 pub struct Members {
     pub answer: CountAnswer,
     pub numbers: [u8; 16],
@@ -58,18 +59,23 @@ impl OneBit {
 pub fn members_of(mask: u16) -> Members
     ensures { λ r. ⌜ membersPaper r ≡ listed (bits 16 mask) ⌝ }
 {
-    let mut numbers = [255u8; 16];
+    let mut numbers = [UNUSED; 16];
     let mut count: usize = 0;
-    let mut rest = mask;
-    while rest != 0 {
-        let k = u16::trailing_zeros(rest);
-        numbers[count] = k as u8;
-        count += 1;
-        rest -= 1u16 << k;
-    }
-    Members {
-        answer: CountAnswer::Count(count as u8),
-        numbers: numbers,
+    let mut walk = OneBitsIter(mask as u64);
+    loop {
+        match walk.next() {
+            BitStep::Done => {
+                return Members {
+                    answer: CountAnswer::Count(count as u8),
+                    numbers: numbers,
+                };
+            }
+            BitStep::Bit(bit, rest) => {
+                numbers[count] = bit.number().0;
+                count += 1;
+                walk = rest;
+            }
+        }
     }
 }
 
@@ -79,6 +85,6 @@ pub fn no_members() -> Members
 {
     Members {
         answer: CountAnswer::Refused(Refusal::Unknown(0)),
-        numbers: [255; 16],
+        numbers: [UNUSED; 16],
     }
 }

@@ -4,10 +4,8 @@
 // scalars the 32-bit ones come before other sizes: the lowest member is the preferred one.
 
 ghost use mathlib.Core.Path.{_≡_};
-ghost use mathlib.Core.List.{map};
-ghost use Prim.Native.Nat.{_^_};
 ghost use lib.Bits.{bitAnd};
-ghost use Rattle.scalars.specs.Mask.{upTo};
+ghost use Rattle.scalars.specs.Domain.{scalarCount};
 ghost use Rattle.scalars.specs.OneBits.{membersWithin};
 ghost use Rattle.scalars.specs.Paper.{scalarPaper, membersPaper};
 ghost use Rattle.scalars.specs.Scalar.{mostGeneral, member, convertibleFrom, singletonOf, namedSets};
@@ -67,76 +65,66 @@ impl Scalar {
 
     // How many scalars there are.
     pub const COUNT: u8 = 12;
-
-    // The number of each scalar, in the order of the numbers.
-    pub fn numbers() -> [u8; 12]
-        ensures { λ r. ⌜ r ≡ upTo 12 ⌝ }
-    {
-        [
-            Scalar::ABSTRACT_INT.0,
-            Scalar::ABSTRACT_FLOAT.0,
-            Scalar::I32.0,
-            Scalar::I16.0,
-            Scalar::I64.0,
-            Scalar::U32.0,
-            Scalar::U16.0,
-            Scalar::U64.0,
-            Scalar::F32.0,
-            Scalar::F16.0,
-            Scalar::F64.0,
-            Scalar::BOOL.0,
-        ]
-    }
 }
 
 impl ScalarSet {
     pub const EMPTY: ScalarSet = ScalarSet(0);
 
-    pub const ABSTRACT_INT: ScalarSet = ScalarSet(1);
+    pub const ABSTRACT_INT: ScalarSet = ScalarSet(1 << Scalar::ABSTRACT_INT.0);
 
-    pub const ABSTRACT_FLOAT: ScalarSet = ScalarSet(1 << 1);
+    pub const ABSTRACT_FLOAT: ScalarSet = ScalarSet(1 << Scalar::ABSTRACT_FLOAT.0);
 
-    pub const I32: ScalarSet = ScalarSet(1 << 2);
+    pub const I32: ScalarSet = ScalarSet(1 << Scalar::I32.0);
 
-    pub const I16: ScalarSet = ScalarSet(1 << 3);
+    pub const I16: ScalarSet = ScalarSet(1 << Scalar::I16.0);
 
-    pub const I64: ScalarSet = ScalarSet(1 << 4);
+    pub const I64: ScalarSet = ScalarSet(1 << Scalar::I64.0);
 
-    pub const U32: ScalarSet = ScalarSet(1 << 5);
+    pub const U32: ScalarSet = ScalarSet(1 << Scalar::U32.0);
 
-    pub const U16: ScalarSet = ScalarSet(1 << 6);
+    pub const U16: ScalarSet = ScalarSet(1 << Scalar::U16.0);
 
-    pub const U64: ScalarSet = ScalarSet(1 << 7);
+    pub const U64: ScalarSet = ScalarSet(1 << Scalar::U64.0);
 
-    pub const F32: ScalarSet = ScalarSet(1 << 8);
+    pub const F32: ScalarSet = ScalarSet(1 << Scalar::F32.0);
 
-    pub const F16: ScalarSet = ScalarSet(1 << 9);
+    pub const F16: ScalarSet = ScalarSet(1 << Scalar::F16.0);
 
-    pub const F64: ScalarSet = ScalarSet(1 << 10);
+    pub const F64: ScalarSet = ScalarSet(1 << Scalar::F64.0);
 
-    pub const BOOL: ScalarSet = ScalarSet(1 << 11);
+    pub const BOOL: ScalarSet = ScalarSet(1 << Scalar::BOOL.0);
 
-    pub const FLOAT: ScalarSet = ScalarSet(1 << 1 | 1 << 9 | 1 << 8 | 1 << 10);
-
-    pub const INTEGER: ScalarSet = ScalarSet(
-        1 | 1 << 3 | 1 << 2 | 1 << 4 | 1 << 6 | 1 << 5 | 1 << 7,
+    pub const FLOAT: ScalarSet = ScalarSet(
+        ScalarSet::ABSTRACT_FLOAT.0 | ScalarSet::F16.0 | ScalarSet::F32.0 | ScalarSet::F64.0,
     );
 
-    pub const NUMERIC: ScalarSet = ScalarSet(0b0111_1111_1111);
+    pub const INTEGER: ScalarSet = ScalarSet(
+        ScalarSet::ABSTRACT_INT.0
+            | ScalarSet::I16.0
+            | ScalarSet::I32.0
+            | ScalarSet::I64.0
+            | ScalarSet::U16.0
+            | ScalarSet::U32.0
+            | ScalarSet::U64.0,
+    );
 
-    pub const ABSTRACT: ScalarSet = ScalarSet(0b0000_0000_0011);
+    pub const NUMERIC: ScalarSet = ScalarSet(ScalarSet::FLOAT.0 | ScalarSet::INTEGER.0);
 
-    pub const CONCRETE: ScalarSet = ScalarSet(0b1111_1111_1100);
+    // Every scalar.
+    pub const ALL: ScalarSet = ScalarSet(ScalarSet::NUMERIC.0 | ScalarSet::BOOL.0);
 
-    pub const CONCRETE_INTEGER: ScalarSet = ScalarSet(0b0000_1111_1100);
+    pub const ABSTRACT: ScalarSet = ScalarSet(
+        ScalarSet::ABSTRACT_INT.0 | ScalarSet::ABSTRACT_FLOAT.0,
+    );
 
-    pub const CONCRETE_FLOAT: ScalarSet = ScalarSet(0b0111_0000_0000);
+    pub const CONCRETE: ScalarSet = ScalarSet(ScalarSet::ALL.0 - ScalarSet::ABSTRACT.0);
+
+    pub const CONCRETE_INTEGER: ScalarSet = ScalarSet(ScalarSet::INTEGER.0 & ScalarSet::CONCRETE.0);
+
+    pub const CONCRETE_FLOAT: ScalarSet = ScalarSet(ScalarSet::FLOAT.0 & ScalarSet::CONCRETE.0);
 
     // Floating-point scalars without the abstract ones, which the crate leaves out of some functions.
-    pub const FLOAT_ABSTRACT_UNIMPLEMENTED: ScalarSet = ScalarSet(0b0111_0000_0000);
-
-    // The mask of every scalar.
-    pub const ALL: u16 = 0b1111_1111_1111;
+    pub const FLOAT_ABSTRACT_UNIMPLEMENTED: ScalarSet = ScalarSet::CONCRETE_FLOAT;
 
     // The set of the one scalar; the empty set for an unknown number, as in the crate.
     pub fn singleton(scalar: Scalar) -> ScalarSet
@@ -154,10 +142,10 @@ impl ScalarSet {
         ensures { λ r. ⌜ r .0 ≡ convertibleFrom (scalar .0) ⌝ }
     {
         let k = scalar.0;
-        if k == 0 {
+        if k == Scalar::ABSTRACT_INT.0 {
             return ScalarSet::NUMERIC;
         }
-        if k == 1 {
+        if k == Scalar::ABSTRACT_FLOAT.0 {
             return ScalarSet::FLOAT;
         }
         ScalarSet::singleton(scalar)
@@ -186,7 +174,7 @@ impl ScalarSet {
         ensures { λ r. ⌜ scalarPaper r ≡ mostGeneral (self .0) ⌝ }
     {
         let mask = self.0;
-        if ScalarSet::ALL < mask {
+        if ScalarSet::ALL.0 < mask {
             return ScalarAnswer::Refused(Refusal::Unknown(0));
         }
         if mask == 0 {
@@ -197,10 +185,10 @@ impl ScalarSet {
 
     // The members' numbers, lowest first. Refused 7 for an unknown bit.
     pub fn members(self) -> Members
-        ensures { λ r. ⌜ membersPaper r ≡ membersWithin 12 (self .0) ⌝ }
+        ensures { λ r. ⌜ membersPaper r ≡ membersWithin scalarCount (self .0) ⌝ }
     {
         let mask = self.0;
-        if ScalarSet::ALL < mask {
+        if ScalarSet::ALL.0 < mask {
             return no_members();
         }
         members_of(mask)
@@ -220,25 +208,5 @@ impl ScalarSet {
             concrete_float: ScalarSet::CONCRETE_FLOAT,
             float_abstract_unimplemented: ScalarSet::FLOAT_ABSTRACT_UNIMPLEMENTED,
         }
-    }
-
-    // The set of each scalar alone, in the order of the scalars' numbers.
-    pub fn singles() -> [u16; 12]
-        ensures { λ r. ⌜ r ≡ map (λ k. 2 ^ k) (upTo 12) ⌝ }
-    {
-        [
-            ScalarSet::ABSTRACT_INT.0,
-            ScalarSet::ABSTRACT_FLOAT.0,
-            ScalarSet::I32.0,
-            ScalarSet::I16.0,
-            ScalarSet::I64.0,
-            ScalarSet::U32.0,
-            ScalarSet::U16.0,
-            ScalarSet::U64.0,
-            ScalarSet::F32.0,
-            ScalarSet::F16.0,
-            ScalarSet::F64.0,
-            ScalarSet::BOOL.0,
-        ]
     }
 }

@@ -22,10 +22,12 @@ use Rattle.lists.specs.List.{acceptedList, kept, listPreferred}
 use Rattle.lists.specs.Expansion.{listOf}
 use Rattle.lists.specs.declared.list.List.{List}
 use Rattle.regular.proofs.Regulars.{known-accepted}
-use Rattle.lists.proofs.ChosenPapers.{list-one}
-use Rattle.lists.proofs.SetSteps.{stepRegular, knownStep}
-use Rattle.lists.proofs.Preferred.{OneShape, argument-one, step-one}
-use Rattle.lists.proofs.Agreement.{Alike, expands, alike-first, alike-step, same-listing, same-preferred}
+use Rattle.theorems.proofs.ChosenPapers.{list-one}
+use Rattle.theorems.specs.Steps.{stepRegular}
+use Rattle.theorems.proofs.SetSteps.{knownStep}
+use Rattle.theorems.proofs.Preferred.{OneShape, argument-one, step-one}
+use Rattle.theorems.proofs.Alike.{Alike, alike-first, alike-step, same-listing, same-preferred}
+use Rattle.lists.proofs.Expansions.{expands}
 use Rattle.theorems.specs.Operations.{regular, list, refused, listAnswer, InTurn}
 use Rattle.theorems.specs.Agreement.{someArgument, Agreed, Agrees, Theorem}
 use Rattle.theorems.proofs.Operations.{leaves, regular-left, list-left}
@@ -81,7 +83,7 @@ agreement κs a x v e h steps c d p q =
     let r = a .0 in
     let l = listOf (regularRules r) in
     let w = alike-first r h in
-    let f : x ≡ record { answer = verdict.Accepted; list = l } = list-one x (record { answer = verdict.Accepted; list = l }) (e ∙ expands r h) in
+    let f : x ≡ record { answer = verdict.Accepted; list = l } = list-one x (record { answer = verdict.Accepted; list = l }) (e ∙ expands r (h .known) (h .few) (h .concludes)) in
     let c-is : c ≡ leaves list kept steps l = list-left steps l (w .tested) c (subst (λ y. InTurn steps (listAnswer y) c) f p) in
     let d-is : d ≡ leaves regular stepRegular steps r = regular-left steps r (w .known) d q in
     rw (c-is, d-is) (agree steps steps l r w (λ s. inl s))

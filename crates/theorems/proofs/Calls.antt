@@ -11,22 +11,22 @@ use lib.Dec.{eqb, ltb}
 use lib.ListN.{length, getD, take}
 use lib.Seq.{take-all}
 use Rattle.scalars.specs.Mask.{consIf}
-use Rattle.scalars.specs.Domain.{firstUnknown}
+use Rattle.types.specs.Domain.{firstUnknown, lastCode}
 use Rattle.scalars.specs.Paper.{accepted, refusal}
 use Rattle.rules.specs.Signature.{Signature, takes}
 use Rattle.rules.specs.Verdict.{longest}
 use Rattle.functions.specs.Functions.{functionCount, listingOf}
 use Rattle.lists.specs.Entry.{Entry, number, keep}
 use Rattle.lists.specs.ChosenPaper.{noChoice}
-use Rattle.calls.specs.Choice.{Choice, chosen, wrongCount, noneAfter, noneConcrete, Narrowed, left, emptied, narrow, first, concreteStep, afterOperands, resolve}
+use Rattle.calls.specs.Choice.{Choice, chosen, wrongCount, noneAfter, noneConcrete, Narrowed, left, emptied, narrow, first, afterOperands, resolve}
 use Rattle.calls.specs.Call.{answered, callOf, survivorsOf, survivorsOfCall}
 use Rattle.scalars.proofs.Filters.{both-left, both-right, both-true}
 use Rattle.functions.proofs.Database.{some-rules}
 use Rattle.calls.proofs.Firsts.{keep-keep, keep-every}
-use Rattle.calls.proofs.Narrowing.{takesFrom, passesAll, permits, Some, Narrows, narrow-narrows}
-use Rattle.calls.proofs.Choices.{concrete-keeps}
+use Rattle.calls.proofs.Narrowing.{takesFrom, passesAll, Some, Narrows, narrow-narrows}
+use Rattle.calls.proofs.Surviving.{left-is}
 use Rattle.calls.proofs.Resolving.{count-wrong, count-right}
-use Rattle.calls.proofs.Demand2.{of-functions}
+use Rattle.theorems.proofs.Demand2.{of-functions}
 use Rattle.theorems.specs.Known.{AllKnown, FirstUnknown}
 use Rattle.theorems.specs.Operations.{Set, regular, list}
 use Rattle.theorems.specs.Calls.{Fits, EmptiedAt, AnswersRule, BySet, Call, Survivors, Theorem}
@@ -144,7 +144,7 @@ module _ (rules : List Signature) (some : 0 < length rules) (ts : List ℕ) wher
     known-take : (k : ℕ) → AllKnown (take k ts)
     known-take k = go ts known k
       where
-        go : (us : List ℕ) → AllKnown us → (k i : ℕ) → i < length (take k us) → getD (take k us) i 0 ≤ 180
+        go : (us : List ℕ) → AllKnown us → (k i : ℕ) → i < length (take k us) → getD (take k us) i 0 ≤ lastCode
         go us h zero i l = absurd (omega arith)
         go [] h (suc k) i l = absurd (omega arith)
         go (u ∷ us) h (suc k) zero l = h 0 (omega arith)
@@ -231,14 +231,9 @@ module _ (rules : List Signature) (some : 0 < length rules) (ts : List ℕ) wher
           first-none [] q = refl
           first-none (y ∷ ys) q = refused-not (sym q)
 
-      left-is : (e : List Entry) → e ≡ keep (takesFrom 0 ts) (number 0 rules) → concreteStep switch e ≡ passing switch ts rules
-      left-is e f =
-          ap (concreteStep switch) f ∙ concrete-keeps switch (keep (takesFrom 0 ts) (number 0 rules))
-          ∙ keep-keep (takesFrom 0 ts) (permits switch) (number 0 rules)
-
       right-count : (y : Narrowed) → Narrows ts 0 (number 0 rules) y → BySet switch s ts (answered (afterOperands switch y))
       right-count (emptied k) h = none-left k h
-      right-count (left e) h = subst (λ x. BySet switch s ts (answered (first x))) (sym (left-is e (h .0))) (some-left e h)
+      right-count (left e) h = subst (λ x. BySet switch s ts (answered (first x))) (sym (left-is switch rules ts e (h .0))) (some-left e h)
 
     by-set : BySet switch s ts (answered (resolve switch rules ts))
     unfolding resolve

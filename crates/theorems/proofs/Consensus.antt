@@ -10,7 +10,8 @@ use borrow.Author.Tests.{ltb-true, ltb-false, eqb-true, eqb-false}
 use lib.Dec.{eqb, ltb}
 use lib.ListN.{length, getD, take}
 use Rattle.scalars.specs.Mask.{choose}
-use Rattle.scalars.specs.Domain.{converts, value?, scalarPart, firstUnknown}
+use Rattle.scalars.specs.Domain.{converts, scalarCount}
+use Rattle.types.specs.Domain.{value?, scalarPart, firstUnknown, otherType}
 use Rattle.scalars.specs.Paper.{Paper, accepted, refusal}
 use Rattle.types.specs.declared.conversion.Base.{Base}
 use Rattle.types.specs.declared.conversion.Base.the-variants as base
@@ -37,35 +38,35 @@ no-base a e = let z : _≡_ {A = ℕ} 0 1 = cc in absurd (omega arith)
 
 -- ---- a component more
 
-offered-known : (best : ℕ) (ts : List ℕ) (a : ℕ) → best < 12 → Offered (scalar best) ts a → a < 12
+offered-known : (best : ℕ) (ts : List ℕ) (a : ℕ) → best < scalarCount → Offered (scalar best) ts a → a < scalarCount
 offered-known best ts a h (byBase e) = let p : best ≡ a = same-base best a e in omega arith
 offered-known best ts a h (byComponent k l v e) = omega arith
 
-alone : (best : ℕ) → best < 12 → Consensus (scalar best) [] best
+alone : (best : ℕ) → best < scalarCount → Consensus (scalar best) [] best
 alone best h = record { offered = byBase refl; scalars = λ k l. absurd (omega arith); reached = reach }
   where
     reach : (a : ℕ) → Offered (scalar best) [] a → converts a best ≡ true
     reach a (byBase e) = rw (sym (same-base best a e)) (itself best h)
     reach a (byComponent k l v e) = absurd (omega arith)
 
-module _ (best t : ℕ) (h : best < 12) where
+module _ (best t : ℕ) (h : best < scalarCount) where
   abbrev both : ℕ
   both = combination best (scalarPart t)
 
   module _ (ts : List ℕ) (s : ℕ) where
-    grown : t < 156 → (both ≡ none → ⊥) → Consensus (scalar both) ts s → Consensus (scalar best) (t ∷ ts) s
+    grown : t < otherType → (both ≡ none → ⊥) → Consensus (scalar both) ts s → Consensus (scalar best) (t ∷ ts) s
     grown v n k = record { offered = offer (k .offered); scalars = every; reached = reach }
       where
         j : Joins best (scalarPart t) both
         j = joins best (scalarPart t) h (omega arith) n
 
-        small : both < 12
+        small : both < scalarCount
         small = combination-known best (scalarPart t) h (omega arith) n
 
-        s-small : s < 12
+        s-small : s < scalarCount
         s-small = offered-known both ts s small (k .offered)
 
-        far : (a : ℕ) → a < 12 → converts a both ≡ true → converts a s ≡ true
+        far : (a : ℕ) → a < scalarCount → converts a both ≡ true → converts a s ≡ true
         far a l p = onwards a both s l small s-small p (k .reached both (byBase refl))
 
         offer : Offered (scalar both) ts s → Offered (scalar best) (t ∷ ts) s
@@ -76,7 +77,7 @@ module _ (best t : ℕ) (h : best < 12) where
             which (inl p) = byBase (ap scalar (sym p ∙ same-base both s e))
             which (inr p) = byComponent 0 (omega arith) v (sym p ∙ same-base both s e)
 
-        every : (i : ℕ) → i < length (t ∷ ts) → getD (t ∷ ts) i 0 < 156
+        every : (i : ℕ) → i < length (t ∷ ts) → getD (t ∷ ts) i 0 < otherType
         every zero l = v
         every (suc i) l = k .scalars i (omega arith)
 
@@ -85,13 +86,13 @@ module _ (best t : ℕ) (h : best < 12) where
         reach a (byComponent zero l w e) = rw (sym e) (far (scalarPart t) (omega arith) (j .right))
         reach a (byComponent (suc i) l w e) = k .reached a (byComponent i (omega arith) w e)
 
-    shrunk : Consensus (scalar best) (t ∷ ts) s → (t < 156) × (both ≡ none → ⊥) × Consensus (scalar both) ts s
+    shrunk : Consensus (scalar best) (t ∷ ts) s → (t < otherType) × (both ≡ none → ⊥) × Consensus (scalar both) ts s
     shrunk k = (v, n, record { offered = offer (k .offered); scalars = λ i l. k .scalars (suc i) (omega arith); reached = reach })
       where
-        v : t < 156
+        v : t < otherType
         v = k .scalars 0 (omega arith)
 
-        s-small : s < 12
+        s-small : s < scalarCount
         s-small = offered-known best (t ∷ ts) s h (k .offered)
 
         left : converts best s ≡ true
@@ -161,7 +162,7 @@ module _ (i : ℕ) (b : Base) (t : ℕ) (ts : List ℕ) (never : (us : List ℕ)
       here m (suc j) e k = absurd (before-it j (k .before))
 
 -- where this component in front makes c the base, the answer is that of the others
-module _ (i : ℕ) (b : Base) (t : ℕ) (ts : List ℕ) (c : ℕ) (h : c < 12)
+module _ (i : ℕ) (b : Base) (t : ℕ) (ts : List ℕ) (c : ℕ) (h : c < scalarCount)
     (turn : (us : List ℕ) (s : ℕ) → Consensus b (t ∷ us) s ↔ Consensus (scalar c) us s) where
   broken-on : (j : ℕ) → Breaks (scalar c) ts j → Breaks b (t ∷ ts) (suc j)
   broken-on j k = record { there = omega (arith, k .there); before = go (k .before); none = λ s w. k .none s (turn (take (suc j) ts) s .0 w) }
@@ -197,7 +198,7 @@ module _ (i : ℕ) (b : Base) (t : ℕ) (ts : List ℕ) (c : ℕ) (h : c < 12)
 
 -- ---- with a base
 
-with-base : (best i : ℕ) (ts : List ℕ) → best < 12 → AnswersFrom i (scalar best) ts (agree best i ts)
+with-base : (best i : ℕ) (ts : List ℕ) → best < scalarCount → AnswersFrom i (scalar best) ts (agree best i ts)
 unfolding agree
 with-base best i [] h =
     record {
@@ -218,23 +219,23 @@ with-base best i (t ∷ ts) h = valued (with-base c (suc i) ts) (value? t) refl
     here : ((us : List ℕ) (s : ℕ) → Consensus (scalar best) (t ∷ us) s → ⊥) → AnswersFrom i (scalar best) (t ∷ ts) (refusal 12 i (255 ∷ []))
     here never = stops i (scalar best) t ts never (inl (best, alone best h))
 
-    combined : t < 156 → (c < 12 → AnswersFrom (suc i) (scalar c) ts (agree c (suc i) ts)) → (y : Bool) → eqb c none ≡ y
+    combined : t < otherType → (c < scalarCount → AnswersFrom (suc i) (scalar c) ts (agree c (suc i) ts)) → (y : Bool) → eqb c none ≡ y
         → AnswersFrom i (scalar best) (t ∷ ts) (choose y (refusal 12 i (255 ∷ [])) (agree c (suc i) ts))
     combined v rest true q = here (λ us s k. shrunk best t h us s k .1 (eqb-true c none q))
     combined v rest false q =
         let n : c ≡ none → ⊥ = eqb-false c none q in
-        let l : c < 12 = combination-known best (scalarPart t) h (omega arith) n in
+        let l : c < scalarCount = combination-known best (scalarPart t) h (omega arith) n in
         goes i (scalar best) t ts c l (λ us s. (λ k. shrunk best t h us s k .2, grown best t h us s v n)) _ (rest l)
 
-    valued : (c < 12 → AnswersFrom (suc i) (scalar c) ts (agree c (suc i) ts)) → (x : Bool) → value? t ≡ x
+    valued : (c < scalarCount → AnswersFrom (suc i) (scalar c) ts (agree c (suc i) ts)) → (x : Bool) → value? t ≡ x
         → AnswersFrom i (scalar best) (t ∷ ts)
         (choose x (choose (eqb c none) (refusal 12 i (255 ∷ [])) (agree c (suc i) ts)) (refusal 12 i (255 ∷ [])))
-    valued rest true p = combined (ltb-true t 156 p) rest (eqb c none) refl
-    valued rest false p = here (λ us s k. let v = shrunk best t h us s k .0 in let w = ltb-false t 156 p in omega arith)
+    valued rest true p = combined (ltb-true t otherType p) rest (eqb c none) refl
+    valued rest false p = here (λ us s k. let v = shrunk best t h us s k .0 in let w = ltb-false t otherType p in omega arith)
 
 -- ---- with no base, the first component is the base
 
-module _ (t : ℕ) (v : t < 156) where
+module _ (t : ℕ) (v : t < otherType) where
   offered-first : (ts : List ℕ) (a : ℕ) → Offered (scalar (scalarPart t)) ts a → Offered base.Nothing (t ∷ ts) a
   offered-first ts a (byBase e) = byComponent 0 (omega arith) v (same-base (scalarPart t) a e)
   offered-first ts a (byComponent k l w e) = byComponent (suc k) (omega arith) w e
@@ -248,7 +249,7 @@ module _ (t : ℕ) (v : t < 156) where
   first-grown ts s k =
       record { offered = offered-first ts s (k .offered); scalars = every; reached = λ a o. k .reached a (first-offered ts a o) }
     where
-      every : (i : ℕ) → i < length (t ∷ ts) → getD (t ∷ ts) i 0 < 156
+      every : (i : ℕ) → i < length (t ∷ ts) → getD (t ∷ ts) i 0 < otherType
       every zero l = v
       every (suc i) l = k .scalars i (omega arith)
 
@@ -275,17 +276,17 @@ without-base (t ∷ ts) = go (value? t) refl
   where
     go : (x : Bool) → value? t ≡ x → AnswersFrom 0 base.Nothing (t ∷ ts) (choose x (agree (scalarPart t) 1 ts) (refusal 12 0 (255 ∷ [])))
     go true p =
-        let v : t < 156 = ltb-true t 156 p in
+        let v : t < otherType = ltb-true t otherType p in
         goes 0 base.Nothing t ts (scalarPart t) (omega arith) (λ us s. (first-shrunk t v us s, first-grown t v us s)) _
         (with-base (scalarPart t) 1 ts (omega arith))
     go false p =
         stops 0 base.Nothing t ts
-        (λ us s k. let v : t < 156 = k .scalars 0 (omega arith) in let w = ltb-false t 156 p in omega arith) (inr (refl, refl))
+        (λ us s k. let v : t < otherType = k .scalars 0 (omega arith) in let w = ltb-false t otherType p in omega arith) (inr (refl, refl))
 
 -- ---- unknown codes, and known ones
 
 module _ (b : Base) (ts : List ℕ) where
-  base-unknown : (a : ℕ) → b ≡ scalar a → 12 ≤ a → Answers b ts (refusal 7 0 (255 ∷ []))
+  base-unknown : (a : ℕ) → b ≡ scalar a → scalarCount ≤ a → Answers b ts (refusal 7 0 (255 ∷ []))
   base-unknown a e l =
       record {
         unknownBase = (λ _. (a, e, l), λ _. refl);
@@ -296,12 +297,12 @@ module _ (b : Base) (ts : List ℕ) where
       }
     where
       never : {A : Type 0} → KnownBase b → A
-      never k = let h : a < 12 = k a e in absurd (omega arith)
+      never k = let h : a < scalarCount = k a e in absurd (omega arith)
 
   module _ (k : KnownBase b) where
     component-unknown : (i : ℕ) → FirstUnknown ts i → Answers b ts (refusal 7 (1 + i) (255 ∷ []))
     component-unknown i u = record {
-      unknownBase = (λ q. let z : 1 + i ≡ 0 = cc in absurd (omega arith), λ (a, e, l). let h : a < 12 = k a e in absurd (omega arith));
+      unknownBase = (λ q. let z : 1 + i ≡ 0 = cc in absurd (omega arith), λ (a, e, l). let h : a < scalarCount = k a e in absurd (omega arith));
       unknownComponent = λ j. (
         λ q. let z : 1 + i ≡ 1 + j = cc in let e : i ≡ j = omega arith in (k, rw e at u),
         λ (_, w). ap (λ n. refusal 7 (1 + n) (255 ∷ [])) (unknown-one ts i j u w),
@@ -314,7 +315,7 @@ module _ (b : Base) (ts : List ℕ) where
     known-codes : AllKnown ts → (r : Paper) → AnswersFrom 0 b ts r → Answers b ts r
     known-codes h r w =
         record {
-          unknownBase = (λ q. absurd (w .known 0 q), λ (a, e, l). let m : a < 12 = k a e in absurd (omega arith));
+          unknownBase = (λ q. absurd (w .known 0 q), λ (a, e, l). let m : a < scalarCount = k a e in absurd (omega arith));
           unknownComponent = λ i. (λ q. absurd (w .known (1 + i) q), λ (_, u). absurd (never-unknown ts i h u));
           nothing = w .nothing;
           accepted = λ s. (λ q. (k, h, w .given s .0 q), λ (_, _, c). w .given s .1 c);
@@ -336,13 +337,13 @@ module _ (b : Base) (ts : List ℕ) where
 answers : (b : Base) (ts : List ℕ) → Answers b ts (consensusOf b ts)
 unfolding consensusOf
 answers base.Nothing ts = known-base base.Nothing ts (λ a e. no-base a e) (agreeWithFirst ts) (without-base ts)
-answers (base.Scalar a) ts = go (ltb (a .0) 12) refl
+answers (base.Scalar a) ts = go (ltb (a .0) scalarCount) refl
   where
-    go : (y : Bool) → ltb (a .0) 12 ≡ y → Answers (base.Scalar a) ts (choose y (ifKnownAll ts (255 ∷ []) (agree (a .0) 0 ts)) (refusal 7 0 (255 ∷ [])))
+    go : (y : Bool) → ltb (a .0) scalarCount ≡ y → Answers (base.Scalar a) ts (choose y (ifKnownAll ts (255 ∷ []) (agree (a .0) 0 ts)) (refusal 7 0 (255 ∷ [])))
     go true e =
-        let h : a .0 < 12 = ltb-true (a .0) 12 e in
+        let h : a .0 < scalarCount = ltb-true (a .0) scalarCount e in
         known-base (base.Scalar a) ts (λ c f. let z : a .0 ≡ c = same-base (a .0) c f in omega arith) (agree (a .0) 0 ts) (with-base (a .0) 0 ts h)
-    go false e = base-unknown (base.Scalar a) ts (a .0) refl (ltb-false (a .0) 12 e)
+    go false e = base-unknown (base.Scalar a) ts (a .0) refl (ltb-false (a .0) scalarCount e)
 
 pub consensus : Theorem
 consensus κs a r v p = rw p (answers (a .0) (a .1 .0 .now))

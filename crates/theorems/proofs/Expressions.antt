@@ -23,11 +23,11 @@ use Rattle.worksheet.specs.declared.typer.TypeAnswer.{TypeAnswer}
 use Rattle.worksheet.specs.Typer.{Typed, typed, refused, typeOf}
 use Rattle.worksheet.specs.Answer.{withRoom, bufferAfter}
 use Rattle.worksheet.specs.Typing.{afterReading, typingOf, typing, noType, answerOf, typePaper}
-use Rattle.worksheet.specs.claims.Meaning.{Gives, Stuck}
-use Rattle.worksheet.specs.claims.Demand3 as trees
+use Rattle.theorems.specs.Meaning.{Gives, Stuck}
+use Rattle.theorems.specs.Demand3 as trees
 use Rattle.expressions.proofs.Answers.{accepted-refused}
-use Rattle.expressions.proofs.AcceptsExactly.{accepts-only, accepts-all}
-use Rattle.worksheet.proofs.OurFunctions.{for-trees}
+use Rattle.theorems.proofs.AcceptsExactly.{accepts-only, accepts-all}
+use Rattle.theorems.proofs.Demand3.{for-trees}
 use Rattle.theorems.specs.Expressions.{Spells, Giving, Room, Worksheet, Demand3, Theorem}
 
 -- no typing is both

@@ -8,6 +8,8 @@ use Prim.Native.Nat.{ℕ, suc, _<_}
 use native.Mathlib.Omega.{arith}
 use borrow.Author.Tests.{le-leb}
 use lib.ListN.{length}
+use Rattle.scalars.specs.Domain.{scalarCount}
+use Rattle.types.specs.Domain.{lastCode, constructorCount}
 use Rattle.scalars.specs.Mask.{both, consIf, filter, every, bits}
 use Rattle.scalars.specs.Paper.{Paper, accepted, refusal, testPaper, countPaper}
 use Rattle.scalars.specs.declared.answer.Test.{Test}
@@ -28,8 +30,8 @@ use Rattle.regular.specs.private.Tested.{Known}
 use Rattle.regular.specs.declared.regular.Regular.{Regular}
 use Rattle.functions.specs.Sequences.{floatScalars, concreteFloatScalars, concreteIntScalars, vectorSizes, vector, matrix, scalarOrVecn}
 use Rattle.functions.specs.ListedRules.{listedRules}
-use Rattle.functions.specs.declared.listed_rules.Listed.{Listed}
-use Rattle.functions.specs.declared.listed_rules.Listed.the-variants.{Ldexp, Outer, Refract, Mix, Transpose, ExtractBits, InsertBits}
+use Rattle.functions.specs.declared.listed_rules.ListFunction.{ListFunction}
+use Rattle.functions.specs.declared.listed_rules.ListFunction.the-variants.{Ldexp, Outer, Refract, Mix, Transpose, ExtractBits, InsertBits}
 use Rattle.functions.specs.Functions.{functionCount, functionSetOf, rulesIn, listingOf}
 use Rattle.functions.specs.declared.mathfunction.FunctionSet.{FunctionSet}
 use Rattle.functions.specs.declared.mathfunction.FunctionSet.the-variants as function
@@ -47,21 +49,21 @@ use Rattle.scalars.proofs.Filters.{both-true}
 use Rattle.regular.proofs.Regulars.{known-accepted}
 use Rattle.functions.proofs.Places.{few-listed}
 use Rattle.functions.specs.FunctionPaper.{functionPaper}
-use Rattle.functions.proofs.Database.{some-rules, set-of}
+use Rattle.functions.proofs.Database.{some-rules}
 use Rattle.functions.proofs.FunctionPapers.{set-told}
-use Rattle.lists.proofs.InTurn.{inTurn, lasts}
-use Rattle.lists.proofs.Lists.{entries-rules}
+use Rattle.theorems.proofs.InTurn.{inTurn, lasts}
+use Rattle.theorems.proofs.ListSteps.{entries-rules, Tested, accepted-of, kept-tested}
 use Rattle.lists.proofs.Steps.{entries-kept}
-use Rattle.lists.proofs.SetSteps.{stepRegular, knownStep, step-known, step-concludes}
-use Rattle.lists.proofs.Preferred.{OneShape, argument-one, step-one, regular-first}
-use Rattle.lists.proofs.Expansions.{Tested, accepted-of, kept-tested}
-use Rattle.lists.proofs.Agreement.{rules-after}
+use Rattle.theorems.specs.Steps.{stepRegular}
+use Rattle.theorems.proofs.SetSteps.{knownStep, step-known, step-concludes}
+use Rattle.theorems.proofs.Preferred.{OneShape, argument-one, step-one, regular-first}
+use Rattle.theorems.proofs.Alike.{rules-after}
 use Rattle.calls.proofs.Firsts.{keep-keep, keep-every}
 use Rattle.calls.proofs.Narrowing.{takesFrom, permits, passesAll}
 use Rattle.calls.proofs.ListResolving.{full-entries}
 use Rattle.calls.proofs.ListCalls.{some-count, full-count}
-use Rattle.calls.proofs.RegularCalls.{rules-longest}
-use Rattle.calls.proofs.FunctionCalls.{callable, regular-listing, full, short-listed, listed-valid, listed-signatures, never-unknown}
+use Rattle.calls.proofs.RegularCalls.{some-arguments, rules-longest}
+use Rattle.calls.proofs.FunctionCalls.{callable, regular-listing, full, some-listed, short-listed, listed-valid, listed-signatures}
 use Rattle.functions.proofs.function_set as function_set
 use Rattle.theorems.specs.Known.{AllKnown}
 use Rattle.theorems.specs.Operations.{Set, regular, list, Empty, Least, Most, Preferred, After}
@@ -93,7 +95,7 @@ known-steps : (switch : Bool) (ts : List ℕ) (k : ℕ) → AllKnown ts → ever
 known-steps true [] k h = refl
 known-steps false [] k h = refl
 known-steps switch (t ∷ ts) k h =
-    both-true (le-leb t 180 (h 0 (omega arith))) (known-steps switch ts (suc k) (λ i l. h (suc i) (omega arith)))
+    both-true (le-leb t lastCode (h 0 (omega arith))) (known-steps switch ts (suc k) (λ i l. h (suc i) (omega arith)))
 
 -- the entries of a listing that pass
 abbrev pub passing : Bool → List ℕ → List Signature → List Entry
@@ -197,8 +199,8 @@ among-none r (k ∷ l ∷ ks) (s ∷ ss) e = let z : _≡_ {A = ℕ} 0 1 = cc in
 regular-none : (r : Regular) → Known r → regularRules r ≡ [] → regularPreferred r ≡ refusal 1 0 noRule
 unfolding regularPreferred codesOf regularRules
 regular-none r known e =
-    ap (λ v. onVerdict v (preferredAmong r (bits 13 (r .constructors .0)) (bits 12 (r .scalars .0))) noRule) (known-accepted r known)
-    ∙ among-none r (bits 13 (r .constructors .0)) (bits 12 (r .scalars .0)) e
+    ap (λ v. onVerdict v (preferredAmong r (bits constructorCount (r .constructors .0)) (bits scalarCount (r .scalars .0))) noRule) (known-accepted r known)
+    ∙ among-none r (bits constructorCount (r .constructors .0)) (bits scalarCount (r .scalars .0)) e
 
 module _ (r : Regular) (able : Callable r) (some : 0 < length (regularRules r)) where
   regular-count : regularCount r ≡ accepted (longest (regularRules r) ∷ [])
@@ -214,7 +216,7 @@ module _ (r : Regular) (able : Callable r) (some : 0 < length (regularRules r)) 
 
     rest-rules : regularRules rest ≡ rulesOf (passing switch ts (regularRules r))
     rest-rules =
-        rules-after (stepsFrom switch 0 ts) r (inl (able .arguments))
+        rules-after (stepsFrom switch 0 ts) r (inl (some-arguments r able some))
         ∙ ap (inTurn (λ k. filter (passes k)) (stepsFrom switch 0 ts)) (sym (numbered 0 (regularRules r)))
         ∙ sym (keeping-rules (stepsFrom switch 0 ts) (number 0 (regularRules r)))
         ∙ ap rulesOf (steps-kept switch ts 0 (number 0 (regularRules r)))
@@ -227,10 +229,10 @@ module _ (r : Regular) (able : Callable r) (some : 0 < length (regularRules r)) 
 
     -- an argument's step has left one constructor, or none
     rest-shape : length ts ≡ longest (regularRules r) → OneShape rest
-    rest-shape e = go ts (e ∙ rules-longest r able ts)
+    rest-shape e = go ts (e ∙ rules-longest r able)
       where
         go : (us : List ℕ) → length us ≡ r .arity → OneShape (inTurn stepRegular (stepsFrom switch 0 us) r)
-        go [] e = absurd (omega (arith, able .arguments))
+        go [] e = absurd (omega (arith, some-arguments r able some))
         go (u ∷ us) e = lasts OneShape stepRegular step-one (stepsFrom switch 1 us) (stepRegular (Argument 0 u) r) (argument-one 0 u r)
 
     rest-preferred : length ts ≡ longest (regularRules r) → regularPreferred rest ≡ firstRule (passing switch ts (regularRules r))
@@ -260,7 +262,7 @@ module _ (r : Regular) (able : Callable r) (some : 0 < length (regularRules r)) 
 
 -- ---- a List
 
-typed-listed : (l : Listed) → every typed? (listedRules l) ≡ true
+typed-listed : (l : ListFunction) → every typed? (listedRules l) ≡ true
 unfolding listedRules floatScalars concreteFloatScalars concreteIntScalars vectorSizes vector matrix scalarOrVecn
 typed-listed Ldexp = refl
 typed-listed Outer = refl
@@ -274,7 +276,7 @@ entries-after : (ks : List Keep) (l : declared.List) → entries (inTurn kept ks
 entries-after [] l = refl
 entries-after (k ∷ ks) l = entries-after ks (kept k l) ∙ ap (keeping ks) (entries-kept k l)
 
-module _ (d : Listed) where
+module _ (d : ListFunction) where
   abbrev whole : declared.List
   whole = listOf (listedRules d)
 
@@ -284,7 +286,7 @@ module _ (d : Listed) where
   list-count : listCount whole ≡ accepted (longest (listedRules d) ∷ [])
   unfolding listCount
   list-count =
-      ap (λ v. onVerdict v (countOf (listing whole)) (255 ∷ [])) (tested .accepted) ∙ full-count whole (full d whole refl)
+      ap (λ v. onVerdict v (countOf (listing whole)) (255 ∷ [])) (tested .accepted) ∙ full-count whole (full d whole refl) (subst⁻¹ (λ rs. 0 < length rs) (listed-signatures d) (some-listed d))
       ∙ ap (λ rs. accepted (longest rs ∷ [])) (listed-signatures d)
 
   module _ (switch : Bool) (ts : List ℕ) where
@@ -330,7 +332,7 @@ module _ (d : Listed) where
 
 -- the contract of `function_set`, read
 set-is : (f : ℕ) (s : FunctionSet) → function_set.Reads.Post tt (f, tt) s (f, tt) ↔ functionSetOf f ≡ s
-set-is f s = (λ p. set-told f s p refl, λ e. ap functionPaper (sym e) ∙ set-of f)
+set-is f s = (λ p. set-told f s p refl, λ e. ap functionPaper (sym e))
 
 pub has-set : (f : ℕ) → f < functionCount → (s : Set) × Has f s
 has-set f h = go (functionSetOf f) refl
@@ -338,7 +340,6 @@ has-set f h = go (functionSetOf f) refl
     go : (s : FunctionSet) → functionSetOf f ≡ s → (s : Set) × Has f s
     go (function.Regular r) e = (regular r, itsRegular r (set-is f (function.Regular r) .1 e))
     go (function.List d) e = (list (listOf (listedRules d)), itsList d (set-is f (function.List d) .1 e) refl)
-    go function.Unknown e = absurd (never-unknown f h e)
 
 pub means : (f : ℕ) → f < functionCount → (s : Set) → Has f s → Means s (listingOf f)
 unfolding listingOf

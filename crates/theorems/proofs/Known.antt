@@ -8,30 +8,30 @@ use borrow.Author.Tests.{leb-true, leb-false}
 use lib.Dec.{leb}
 use lib.ListN.{length, getD}
 use Rattle.scalars.specs.Mask.{choose}
-use Rattle.scalars.specs.Domain.{firstUnknown}
+use Rattle.types.specs.Domain.{firstUnknown, lastCode}
 use Rattle.theorems.specs.Known.{AllKnown, FirstUnknown}
 
 -- each code before the first unknown one is known
-below-known : (ts : List ℕ) (k : ℕ) → k < firstUnknown ts → getD ts k 0 ≤ 180
+below-known : (ts : List ℕ) (k : ℕ) → k < firstUnknown ts → getD ts k 0 ≤ lastCode
 unfolding firstUnknown
 below-known [] k l = absurd (omega arith)
-below-known (t ∷ ts) k l = go (below-known ts) (leb t 180) refl k l
+below-known (t ∷ ts) k l = go (below-known ts) (leb t lastCode) refl k l
   where
-    go : ((k : ℕ) → k < firstUnknown ts → getD ts k 0 ≤ 180) → (b : Bool) → leb t 180 ≡ b → (k : ℕ) → k < choose b (suc (firstUnknown ts)) 0
-        → getD (t ∷ ts) k 0 ≤ 180
-    go rest true e zero l = leb-true t 180 e
+    go : ((k : ℕ) → k < firstUnknown ts → getD ts k 0 ≤ lastCode) → (b : Bool) → leb t lastCode ≡ b → (k : ℕ) → k < choose b (suc (firstUnknown ts)) 0
+        → getD (t ∷ ts) k 0 ≤ lastCode
+    go rest true e zero l = leb-true t lastCode e
     go rest true e (suc k) l = rest k (omega arith)
     go rest false e k l = absurd (omega arith)
 
-unknown-there : (ts : List ℕ) → firstUnknown ts < length ts → 180 < getD ts (firstUnknown ts) 0
+unknown-there : (ts : List ℕ) → firstUnknown ts < length ts → lastCode < getD ts (firstUnknown ts) 0
 unfolding firstUnknown
 unknown-there [] l = absurd (omega arith)
-unknown-there (t ∷ ts) l = go (unknown-there ts) (leb t 180) refl l
+unknown-there (t ∷ ts) l = go (unknown-there ts) (leb t lastCode) refl l
   where
-    go : (firstUnknown ts < length ts → 180 < getD ts (firstUnknown ts) 0) → (b : Bool) → leb t 180 ≡ b
-        → choose b (suc (firstUnknown ts)) 0 < suc (length ts) → 180 < getD (t ∷ ts) (choose b (suc (firstUnknown ts)) 0) 0
+    go : (firstUnknown ts < length ts → lastCode < getD ts (firstUnknown ts) 0) → (b : Bool) → leb t lastCode ≡ b
+        → choose b (suc (firstUnknown ts)) 0 < suc (length ts) → lastCode < getD (t ∷ ts) (choose b (suc (firstUnknown ts)) 0) 0
     go rest true e l = rest (omega arith)
-    go rest false e l = leb-false t 180 e
+    go rest false e l = leb-false t lastCode e
 
 pub all-known : (ts : List ℕ) → length ts ≤ firstUnknown ts → AllKnown ts
 all-known ts h k l = below-known ts k (omega arith)

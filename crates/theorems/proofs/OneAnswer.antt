@@ -2,19 +2,18 @@
 -- papers are one to one. Assumes nothing.
 use mathlib.Core.Path.{refl, sym, ap, _∙_}
 use Rattle.scalars.proofs.Papers.{walk-one, members-one, scalar-one, test-one, verdict-one, count-one}
-use Rattle.types.specs.TypePaper.{partsPaper}
-use Rattle.types.proofs.TypeCodes.{parts-of-one}
-use Rattle.types.proofs.TypePapers.{size-one, constructor-one, code-one, combination-one, leaf-one, parts-one}
-use Rattle.expressions.proofs.Papers.{read-one}
+use Rattle.types.proofs.TypePapers.{size-one, constructor-one, code-one, combination-one, leaf-one}
+use Rattle.theorems.proofs.ReadPapers.{read-one}
 use Rattle.rules.proofs.RulePapers.{listing-one, types-one, rule-one}
 use Rattle.regular.proofs.SetPapers.{regular-one, set-one}
 use Rattle.functions.proofs.FunctionPapers.{function-one}
-use Rattle.lists.proofs.AnyPapers.{any-one}
-use Rattle.lists.proofs.ChosenPapers.{list-one, chosen-one}
-use Rattle.calls.proofs.SurvivorsPapers.{survivors-one}
+use Rattle.theorems.proofs.AnyPapers.{any-one}
+use Rattle.theorems.proofs.ChosenPapers.{list-one, chosen-one}
+use Rattle.theorems.proofs.SurvivorsPapers.{survivors-one}
+use Rattle.calls.proofs.OutcomePapers.{outcome-one}
 use Rattle.lent_masks.proofs.MaskPapers.{mask-one}
-use Rattle.machine.proofs.RunPapers.{run-one}
-use Rattle.worksheet.proofs.Papers.{type-one}
+use Rattle.theorems.proofs.RunPapers.{run-one}
+use Rattle.theorems.proofs.TypedPapers.{type-one}
 use Rattle.theorems.specs.OneAnswer.{EachFunction}
 
 pub each-function : EachFunction
@@ -26,7 +25,6 @@ each-function = record {
   «no_members» = λ κs a x y v w p q. (members-one x y (p ∙ sym q), refl);
   «Refusal::number» = λ κs a x y v w p q. (p ∙ sym q, refl);
   «Refusal::place» = λ κs a x y v w p q. (p ∙ sym q, refl);
-  «Scalar::numbers» = λ κs a x y v w p q. (p ∙ sym q, refl);
   «ScalarSet::singleton» = λ κs a x y v w p q. (ap (λ k. record { 0 = k }) (p ∙ sym q), refl);
   «ScalarSet::convertible_from» = λ κs a x y v w p q. (ap (λ k. record { 0 = k }) (p ∙ sym q), refl);
   «ScalarSet::meet» = λ κs a x y v w p q. (ap (λ k. record { 0 = k }) (p ∙ sym q), refl);
@@ -34,21 +32,19 @@ each-function = record {
   «ScalarSet::most_general_scalar» = λ κs a x y v w p q. (scalar-one x y (p ∙ sym q), refl);
   «ScalarSet::members» = λ κs a x y v w p q. (members-one x y (p ∙ sym q), refl);
   «ScalarSet::named» = λ κs a x y v w p q. (p ∙ sym q, refl);
-  «ScalarSet::singles» = λ κs a x y v w p q. (p ∙ sym q, refl);
   -- types
   «ConstructorSet::singleton» = λ κs a x y v w p q. (ap (λ k. record { 0 = k }) (p ∙ sym q), refl);
   «ConstructorSet::meet» = λ κs a x y v w p q. (ap (λ k. record { 0 = k }) (p ∙ sym q), refl);
   «ConstructorSet::is_singleton» = λ κs a x y v w p q. (p ∙ sym q, refl);
   «ConstructorSet::members» = λ κs a x y v w p q. (members-one x y (p ∙ sym q), refl);
+  «Constructor::size» = λ κs a x y v w p q. (size-one x y (p ∙ sym q), refl);
   «ConstructorSet::size» = λ κs a x y v w p q. (size-one x y (p ∙ sym q), refl);
-  «ConstructorSet::singles» = λ κs a x y v w p q. (p ∙ sym q, refl);
   «ConstructorSet::vecn» = λ κs a x y v w p q. (ap (λ k. record { 0 = k }) (p ∙ sym q), refl);
   «ConstructorSize::constructor» = λ κs a x y v w p q. (constructor-one x y (p ∙ sym q), refl);
   «ConstructorSize::to_inner» = λ κs a x y v w p q. (code-one x y (p ∙ sym q), refl);
   «automatically_converts_to» = λ κs a x y v w p q. (test-one x y (p ∙ sym q), refl);
   «automatic_conversion_combine» = λ κs a x y v w p q. (combination-one x y (p ∙ sym q), refl);
   «automatic_conversion_consensus» = λ κs a x y v w p q. (scalar-one x y (p ∙ sym q), refl);
-  «type_parts» = λ κs a x y v w p q. (parts-one x y (parts-of-one (a .0) (partsPaper x) (partsPaper y) p q), refl);
   «code_of» = λ κs a x y v w p q. (code-one x y (p ∙ sym q), refl);
   «leaf_scalar» = λ κs a x y v w p q. (leaf-one x y (p ∙ sym q), refl);
   «is_abstract» = λ κs a x y v w p q. (p ∙ sym q, refl);
@@ -110,20 +106,22 @@ each-function = record {
   «List::most_preferred» = λ κs a x y v w p q. (chosen-one x y (p ∙ sym q), refl);
   «List::overload_list» = λ κs a x y v w p q. (listing-one x y (p ∙ sym q), refl);
   «List::allowed_args» = λ κs a x y v w p q. (types-one x y (p ∙ sym q), refl);
+  «List::rule» = λ κs a x y v w p q. (p ∙ sym q, refl);
   «filter» = λ κs a x y v w p q. (ap (λ k. record { 0 = k }) (p ∙ sym q), refl);
   «longest» = λ κs a x y v w p q. (count-one x y (p ∙ sym q), refl);
   -- calls
   «call_of» = λ κs a x y v w p q. (chosen-one x y (p ∙ sym q), refl);
+  «outcome_of» = λ κs a x y v w p q. (outcome-one x y (p ∙ sym q), refl);
   «survivors_of» = λ κs a x y v w p q. (survivors-one x y (p ∙ sym q), refl);
-  «list_of» = λ κs a x y v w p q. (p ∙ sym q, refl);
+  «full_list» = λ κs a x y v w p q. (p ∙ sym q, refl);
   -- lent_masks
   «mask_in» = λ κs a x y v w p q. (mask-one x y (p ∙ sym q), refl);
   «lend_mask» = λ κs a x y v w p q. (verdict-one x y (p .0 ∙ sym (q .0)), ap (λ l. (tt, (tt, (l, tt)))) (p .1 ∙ sym (q .1)));
   -- c_sets
-  «list_from» = λ κs a x y v w p q. (list-one x y (p ∙ sym q), refl);
   «list_arg» = λ κs a x y v w p q. (list-one x y (p ∙ sym q), refl);
   «list_concrete_only» = λ κs a x y v w p q. (list-one x y (p ∙ sym q), refl);
   «list_preferred» = λ κs a x y v w p q. (chosen-one x y (p ∙ sym q), refl);
+  «rules_in» = λ κs a x y v w p q. (p ∙ sym q, refl);
   «regular_from» = λ κs a x y v w p q. (regular-one x y (p ∙ sym q), refl);
   «regular_arg» = λ κs a x y v w p q. (regular-one x y (p ∙ sym q), refl);
   «regular_concrete_only» = λ κs a x y v w p q. (regular-one x y (p ∙ sym q), refl);

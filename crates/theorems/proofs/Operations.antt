@@ -25,11 +25,12 @@ use Rattle.lists.specs.declared.list.List.{List}
 use Rattle.lists.specs.declared.list.ListAnswer.{ListAnswer}
 use Rattle.scalars.proofs.Filters.{both-left, both-right}
 use Rattle.regular.proofs.SetPapers.{regular-one}
-use Rattle.lists.proofs.ChosenPapers.{list-one}
-use Rattle.lists.proofs.InTurn.{inTurn}
-use Rattle.lists.proofs.SetSteps.{stepRegular, knownStep, askRegular, asked-regular, step-known}
-use Rattle.lists.proofs.Expansions.{Tested, kept-tested}
-use Rattle.lists.proofs.Agreement.{askList, asked-list}
+use Rattle.theorems.proofs.ChosenPapers.{list-one}
+use Rattle.theorems.proofs.InTurn.{inTurn}
+use Rattle.theorems.specs.Steps.{stepRegular}
+use Rattle.theorems.proofs.SetSteps.{knownStep, askRegular, asked-regular, step-known}
+use Rattle.theorems.proofs.ListSteps.{Tested, kept-tested}
+use Rattle.theorems.proofs.Alike.{askList, asked-list}
 use Rattle.theorems.specs.Operations.{Set, regular, list, Paper-of, Answer, set, refused, regularAnswer, listAnswer, Answer-of, Step, InTurn, done, stopped, step, After}
 
 -- ---- questions

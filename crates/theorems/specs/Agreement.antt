@@ -9,7 +9,7 @@ use Prim.Native.Nat.{ℕ}
 use Rattle.scalars.specs.Paper.{Paper, accepted}
 use Rattle.rules.specs.declared.rule.Keep.{Keep}
 use Rattle.rules.specs.declared.rule.Keep.the-variants.{Argument, Concrete}
-use Rattle.lists.specs.claims.Expands.{Expands}
+use Rattle.theorems.specs.Expands.{Expands}
 use Rattle.lists.proofs as lists
 use Rattle.theorems.specs.Contracts.{Promises}
 use Rattle.theorems.specs.Operations.{Set, regular, Empty, Preferred, Listed, Answer, set, refused, listAnswer, InTurn}

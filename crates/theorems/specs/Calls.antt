@@ -1,5 +1,5 @@
--- Demand 2, of single calls. Take any function number f, any operands ts, the switch on or off, and whatever answers the contracts of
--- `call_of` and `survivors_of` permit of them.
+-- Demand 2, of single calls, over the contracts; Demand2 says it over the definitions. Take any function number f, any operands ts, the
+-- switch on or off, and whatever answers the contracts of `call_of` and `survivors_of` permit of them.
 --
 -- * 7 at 0 exactly when there is no function f; 7 at 1 + i exactly when there is, and operand i is the first that is no type.
 -- A function has a set. Of a function and types, a call answers what the operations on the function's set answer, of either kind:
@@ -24,7 +24,7 @@ use Rattle.scalars.specs.Paper.{Paper, accepted, refusal}
 use Rattle.rules.specs.declared.rule.Keep.{Keep}
 use Rattle.rules.specs.declared.rule.Keep.the-variants.{Argument, Concrete}
 use Rattle.regular.specs.declared.regular.Regular.{Regular}
-use Rattle.functions.specs.declared.listed_rules.Listed.{Listed}
+use Rattle.functions.specs.declared.listed_rules.ListFunction.{ListFunction}
 use Rattle.functions.specs.Functions.{functionCount, listingOf}
 use Rattle.functions.specs.declared.mathfunction.FunctionSet.the-variants as function
 use Rattle.lists.specs.Entry.{number}
@@ -32,7 +32,7 @@ use Rattle.lists.specs.ChosenPaper.{chosenPaper, noChoice}
 use Rattle.lists.specs.declared.list.List as declared
 use Rattle.lists.specs.declared.list.ChosenAnswer.{ChosenAnswer}
 use Rattle.calls.specs.Choice.{Choice, first}
-use Rattle.calls.specs.claims.Taking.{Survive, Says}
+use Rattle.theorems.specs.Taking.{Survive, Says}
 use Rattle.calls.specs.Call.{answered}
 use Rattle.calls.specs.SurvivorsPaper.{survivorsPaper}
 use Rattle.functions.proofs as functions
@@ -41,11 +41,11 @@ use Rattle.theorems.specs.Contracts.{Promises}
 use Rattle.theorems.specs.Known.{AllKnown, FirstUnknown}
 use Rattle.theorems.specs.Operations.{Set, regular, list, Empty, Least, Most, Preferred, After}
 
--- the set of a function: what `function_set` answers; where that names a List, what `list_of` answers
+-- the set of a function: what `function_set` answers; where that names a List, what `full_list` answers
 pub data Has (f : ℕ) : Set → Type 0 where
   itsRegular : (r : Regular) → functions.function_set.Reads.Post tt (f, tt) (function.Regular r) (f, tt) → Has f (regular r)
-  itsList : (d : Listed) {l : declared.List} → functions.function_set.Reads.Post tt (f, tt) (function.List d) (f, tt)
-      → single.list_of.Reads.Post tt (d, tt) l (d, tt) → Has f (list l)
+  itsList : (d : ListFunction) {l : declared.List} → functions.function_set.Reads.Post tt (f, tt) (function.List d) (f, tt)
+      → single.full_list.Reads.Post tt (d, tt) l (d, tt) → Has f (list l)
 
 -- the steps of a call: each operand at its index, then the concrete-only step if the switch is on
 abbrev pub lastStep : Bool → List Keep

@@ -14,9 +14,10 @@ use mathlib.Core.Bool.{true}
 use mathlib.Core.List.{List, [], _∷_}
 use Prim.Native.Nat.{ℕ, suc, _+_, _≤_, _<_}
 use lib.ListN.{length, getD, take}
-use Rattle.scalars.specs.Domain.{converts, scalarPart}
+use Rattle.scalars.specs.Domain.{converts, scalarCount}
+use Rattle.types.specs.Domain.{scalarPart, otherType}
 use Rattle.scalars.specs.Paper as paper
-use Rattle.scalars.specs.Paper.{Paper, refusal, scalarPaper}
+use Rattle.scalars.specs.Paper.{Paper, refusal, scalarPaper, unused}
 use Rattle.types.specs.declared.conversion.Base.{Base}
 use Rattle.types.specs.declared.conversion.Base.the-variants as base
 use Rattle.types.proofs as types
@@ -26,11 +27,11 @@ use Rattle.theorems.specs.Known.{AllKnown, FirstUnknown}
 -- the scalars on offer
 pub data Offered (b : Base) (ts : List ℕ) (a : ℕ) : Type 0 where
   byBase : b ≡ base.Scalar (record { 0 = a }) → Offered b ts a
-  byComponent : (k : ℕ) → k < length ts → getD ts k 0 < 156 → scalarPart (getD ts k 0) ≡ a → Offered b ts a
+  byComponent : (k : ℕ) → k < length ts → getD ts k 0 < otherType → scalarPart (getD ts k 0) ≡ a → Offered b ts a
 
 pub record Consensus (b : Base) (ts : List ℕ) (s : ℕ) : Type 0 where
   pub offered : Offered b ts s
-  pub scalars : (k : ℕ) → k < length ts → getD ts k 0 < 156
+  pub scalars : (k : ℕ) → k < length ts → getD ts k 0 < otherType
   pub reached : (a : ℕ) → Offered b ts a → converts a s ≡ true
 
 -- neither base nor component
@@ -45,17 +46,17 @@ pub record Breaks (b : Base) (ts : List ℕ) (i : ℕ) : Type 0 where
 
 -- the base, if any, is one of the twelve scalars; it is none of them
 abbrev pub KnownBase : Base → Type 0
-KnownBase b = (a : ℕ) → b ≡ base.Scalar (record { 0 = a }) → a < 12
+KnownBase b = (a : ℕ) → b ≡ base.Scalar (record { 0 = a }) → a < scalarCount
 
 abbrev pub UnknownBase : Base → Type 0
-UnknownBase b = (a : ℕ) × (b ≡ base.Scalar (record { 0 = a })) × (12 ≤ a)
+UnknownBase b = (a : ℕ) × (b ≡ base.Scalar (record { 0 = a })) × (scalarCount ≤ a)
 
 pub record Answers (b : Base) (ts : List ℕ) (p : Paper) : Type 0 where
-  pub unknownBase : p ≡ refusal 7 0 (255 ∷ []) ↔ UnknownBase b
-  pub unknownComponent : (i : ℕ) → p ≡ refusal 7 (1 + i) (255 ∷ []) ↔ (KnownBase b × FirstUnknown ts i)
-  pub nothing : p ≡ refusal 11 0 (255 ∷ []) ↔ Nothing b ts
+  pub unknownBase : p ≡ refusal 7 0 (unused ∷ []) ↔ UnknownBase b
+  pub unknownComponent : (i : ℕ) → p ≡ refusal 7 (1 + i) (unused ∷ []) ↔ (KnownBase b × FirstUnknown ts i)
+  pub nothing : p ≡ refusal 11 0 (unused ∷ []) ↔ Nothing b ts
   pub accepted : (s : ℕ) → p ≡ paper.accepted (s ∷ []) ↔ (KnownBase b × AllKnown ts × Consensus b ts s)
-  pub broken : (i : ℕ) → p ≡ refusal 12 i (255 ∷ []) ↔ (KnownBase b × AllKnown ts × Breaks b ts i)
+  pub broken : (i : ℕ) → p ≡ refusal 12 i (unused ∷ []) ↔ (KnownBase b × AllKnown ts × Breaks b ts i)
 
 abbrev pub Theorem : Type 0
 Theorem =

@@ -1,6 +1,6 @@
--- Demand 3 of the entry points themselves: `type_expression`, which types an expression, and the strict machine's `run_worksheet`. Take
--- any bytes s, either position of the concrete-only switch and any lent buffer d, and any answer r and final buffer d′ that the
--- promise of `type_expression` permits for them.
+-- Demand 3 of the entry points themselves: `type_expression`, which types an expression, and the strict machine's `run_worksheet`. Demand3
+-- says it of trees, over the definitions. Take any bytes s, either position of the concrete-only switch and any lent buffer d, and any
+-- answer r and final buffer d′ that the promise of `type_expression` permits for them.
 --
 -- The answer is accepted with type t and length n exactly when s is the bytes of an expression within the limits that gives t, each call
 -- in it by the first rule that takes its operands, by lines of n bytes that d has room for. Then d′ begins with the bytes of these lines,
@@ -18,14 +18,14 @@ use lib.ListN.{length, take, drop}
 use Rattle.scalars.specs.Paper as paper
 use Rattle.functions.specs.Functions.{functionCount, listingOf}
 use Rattle.expressions.specs.Tree.{Tree, bytesOf}
-use Rattle.expressions.specs.claims.Limits.{WellFormed}
+use Rattle.theorems.specs.Limits.{WellFormed}
 use Rattle.machine.specs.Line.{Line, encode}
 use Rattle.machine.specs.Run.{runPaper}
 use Rattle.machine.proofs as machine
 use Rattle.worksheet.specs.declared.typer.TypeAnswer.{TypeAnswer}
-use Rattle.worksheet.specs.claims.Room.{enoughBytes}
+use Rattle.worksheet.specs.private.Sheet.{enoughBytes}
 use Rattle.worksheet.specs.Typing.{noType, typePaper}
-use Rattle.worksheet.specs.claims.Meaning.{order, ownOf, Gives, Stuck}
+use Rattle.theorems.specs.Meaning.{order, ownOf, Gives, Stuck}
 use Rattle.worksheet.proofs as worksheet
 use Rattle.theorems.specs.Contracts.{Promises}
 

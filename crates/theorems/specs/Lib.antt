@@ -1,9 +1,22 @@
--- The demands as theorems of the public functions, each said of every answer that the functions' contracts permit.
+-- All that is claimed: the demands as theorems, each stated in English at the head of its file. Of the public functions, said of every answer
+-- that their contracts permit: OneAnswer, Consensus, Agreement over Operations, Calls (Demand 2), Expressions (Demand 3). Of the definitions
+-- that the contracts cite, over any database of rules: Expands, Steps, Demand2, FirstPass, Demand3, Readings. The others are words that
+-- statements share.
 pub mod Contracts
 pub mod Known
 pub mod OneAnswer
 pub mod Consensus
 pub mod Operations
+pub mod Expands
+pub mod Steps
 pub mod Agreement
+pub mod Taking
+pub mod Demand2
 pub mod Calls
+pub mod Limits
+pub mod FirstPass
+pub mod Meaning
+pub mod Fault
+pub mod Demand3
 pub mod Expressions
+pub mod Readings

@@ -40,7 +40,6 @@ pub record EachFunction : Type 0 where
   pub «no_members» : OneAnswer scalars.no_members.ended scalars.no_members.Reads.Post
   pub «Refusal::number» : OneAnswer refusal.Refusal.number.ended refusal.Refusal.number.Reads.Post
   pub «Refusal::place» : OneAnswer refusal.Refusal.place.ended refusal.Refusal.place.Reads.Post
-  pub «Scalar::numbers» : OneAnswer scalar_set.Scalar.numbers.ended scalar_set.Scalar.numbers.Reads.Post
   pub «ScalarSet::singleton» : OneAnswer scalar_set.ScalarSet.singleton.ended scalar_set.ScalarSet.singleton.Reads.Post
   pub «ScalarSet::convertible_from» : OneAnswer scalar_set.ScalarSet.convertible_from.ended scalar_set.ScalarSet.convertible_from.Reads.Post
   pub «ScalarSet::meet» : OneAnswer scalar_set.ScalarSet.meet.ended scalar_set.ScalarSet.meet.Reads.Post
@@ -48,21 +47,19 @@ pub record EachFunction : Type 0 where
   pub «ScalarSet::most_general_scalar» : OneAnswer scalar_set.ScalarSet.most_general_scalar.ended scalar_set.ScalarSet.most_general_scalar.Reads.Post
   pub «ScalarSet::members» : OneAnswer scalar_set.ScalarSet.members.ended scalar_set.ScalarSet.members.Reads.Post
   pub «ScalarSet::named» : OneAnswer scalar_set.ScalarSet.named.ended scalar_set.ScalarSet.named.Reads.Post
-  pub «ScalarSet::singles» : OneAnswer scalar_set.ScalarSet.singles.ended scalar_set.ScalarSet.singles.Reads.Post
   -- types
   pub «ConstructorSet::singleton» : OneAnswer constructor_set.ConstructorSet.singleton.ended constructor_set.ConstructorSet.singleton.Reads.Post
   pub «ConstructorSet::meet» : OneAnswer constructor_set.ConstructorSet.meet.ended constructor_set.ConstructorSet.meet.Reads.Post
   pub «ConstructorSet::is_singleton» : OneAnswer constructor_set.ConstructorSet.is_singleton.ended constructor_set.ConstructorSet.is_singleton.Reads.Post
   pub «ConstructorSet::members» : OneAnswer constructor_set.ConstructorSet.members.ended constructor_set.ConstructorSet.members.Reads.Post
+  pub «Constructor::size» : OneAnswer constructor_set.Constructor.size.ended constructor_set.Constructor.size.Reads.Post
   pub «ConstructorSet::size» : OneAnswer constructor_set.ConstructorSet.size.ended constructor_set.ConstructorSet.size.Reads.Post
-  pub «ConstructorSet::singles» : OneAnswer constructor_set.ConstructorSet.singles.ended constructor_set.ConstructorSet.singles.Reads.Post
   pub «ConstructorSet::vecn» : OneAnswer constructor_set.ConstructorSet.vecn.ended constructor_set.ConstructorSet.vecn.Reads.Post
   pub «ConstructorSize::constructor» : OneAnswer constructor_set.ConstructorSize.constructor.ended constructor_set.ConstructorSize.constructor.Reads.Post
   pub «ConstructorSize::to_inner» : OneAnswer constructor_set.ConstructorSize.to_inner.ended constructor_set.ConstructorSize.to_inner.Reads.Post
   pub «automatically_converts_to» : OneAnswer types.automatically_converts_to.ended types.automatically_converts_to.Reads.Post
   pub «automatic_conversion_combine» : OneAnswer types.automatic_conversion_combine.ended types.automatic_conversion_combine.Reads.Post
   pub «automatic_conversion_consensus» : OneAnswer types.automatic_conversion_consensus.ended types.automatic_conversion_consensus.Reads.Post
-  pub «type_parts» : OneAnswer types.type_parts.ended types.type_parts.Reads.Post
   pub «code_of» : OneAnswer types.code_of.ended types.code_of.Reads.Post
   pub «leaf_scalar» : OneAnswer types.leaf_scalar.ended types.leaf_scalar.Reads.Post
   pub «is_abstract» : OneAnswer types.is_abstract.ended types.is_abstract.Reads.Post
@@ -124,20 +121,22 @@ pub record EachFunction : Type 0 where
   pub «List::most_preferred» : OneAnswer list.List.most_preferred.ended list.List.most_preferred.Reads.Post
   pub «List::overload_list» : OneAnswer list.List.overload_list.ended list.List.overload_list.Reads.Post
   pub «List::allowed_args» : OneAnswer list.List.allowed_args.ended list.List.allowed_args.Reads.Post
+  pub «List::rule» : OneAnswer list.List.rule.ended list.List.rule.Reads.Post
   pub «filter» : OneAnswer lists.filter.ended lists.filter.Reads.Post
   pub «longest» : OneAnswer lists.longest.ended lists.longest.Reads.Post
   -- calls
   pub «call_of» : OneAnswer calls.call_of.ended calls.call_of.Reads.Post
+  pub «outcome_of» : OneAnswer calls.outcome_of.ended calls.outcome_of.Reads.Post
   pub «survivors_of» : OneAnswer calls.survivors_of.ended calls.survivors_of.Reads.Post
-  pub «list_of» : OneAnswer calls.list_of.ended calls.list_of.Reads.Post
+  pub «full_list» : OneAnswer calls.full_list.ended calls.full_list.Reads.Post
   -- lent_masks
   pub «mask_in» : OneAnswer lent_masks.mask_in.ended lent_masks.mask_in.Reads.Post
   pub «lend_mask» : OneAnswer lent_masks.lend_mask.ended lent_masks.lend_mask.Reads.Post
   -- c_sets
-  pub «list_from» : OneAnswer c_sets.list_from.ended c_sets.list_from.Reads.Post
   pub «list_arg» : OneAnswer c_sets.list_arg.ended c_sets.list_arg.Reads.Post
   pub «list_concrete_only» : OneAnswer c_sets.list_concrete_only.ended c_sets.list_concrete_only.Reads.Post
   pub «list_preferred» : OneAnswer c_sets.list_preferred.ended c_sets.list_preferred.Reads.Post
+  pub «rules_in» : OneAnswer c_sets.rules_in.ended c_sets.rules_in.Reads.Post
   pub «regular_from» : OneAnswer c_sets.regular_from.ended c_sets.regular_from.Reads.Post
   pub «regular_arg» : OneAnswer c_sets.regular_arg.ended c_sets.regular_arg.Reads.Post
   pub «regular_concrete_only» : OneAnswer c_sets.regular_concrete_only.ended c_sets.regular_concrete_only.Reads.Post

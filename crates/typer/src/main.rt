@@ -7,8 +7,11 @@
 ghost use mathlib.Core.Path.{_≡_};
 ghost use Prim.Native.Nat.{_≤_};
 ghost use lib.ListN.{length};
+ghost use Rattle.worksheet.specs.private.Sheet.{enoughBytes};
 use libc::STDIN_FILENO;
 use libc::STDOUT_FILENO;
+use scalars::UNUSED;
+use worksheet::ENOUGH_BYTES;
 use worksheet::TypeAnswer;
 use worksheet::type_expression;
 
@@ -26,7 +29,7 @@ fn main() {
 // Types the input into the sheet and prints what came out.
 fn answer(input: &[u8], sheet: &mut [u8]) {
     match type_expression(input, false, sheet) {
-        TypeAnswer::Refused(why) => print_answer(why.number(), why.place(), 255),
+        TypeAnswer::Refused(why) => print_answer(why.number(), why.place(), UNUSED),
         TypeAnswer::Typed { code, len } => {
             print_answer(0, 0, code);
             print_sheet(sheet, len);
@@ -35,10 +38,10 @@ fn answer(input: &[u8], sheet: &mut [u8]) {
 }
 
 // Room for any worksheet.
-fn room() -> [u8; 508]
-    ensures { λ r. ⌜ 508 ≡ length r ⌝ }
+fn room() -> [u8; ENOUGH_BYTES]
+    ensures { λ r. ⌜ enoughBytes ≡ length r ⌝ }
 {
-    [0; 508]
+    [0; ENOUGH_BYTES]
 }
 
 // Reads what is left of standard input, up to more than any disk holds.

@@ -1,6 +1,7 @@
 -- Laws of constructors, type codes and combinations that several proofs use.
 pub mod Constructors
 pub mod TypeCodes
+pub mod Sizes
 pub mod Codes
 pub mod Combinations
 pub mod TypePapers

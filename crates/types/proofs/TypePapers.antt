@@ -1,26 +1,24 @@
 -- The paper's numbers determine each answer about constructors, type codes and combinations: two answers of one kind with the same
 -- number, place and values are equal. Shown by a function that reads the answer back. Assumes nothing.
-use mathlib.Core.Path.{_≡_, refl}
+use mathlib.Core.Path.{_≡_, refl, ap}
 use mathlib.Core.List.{List, [], _∷_}
 use Prim.Native.Nat.{ℕ}
 use lib.Dec.{eqb}
 use lib.ListN.{getD}
+use Rattle.scalars.specs.Paper.{unused}
 use Rattle.scalars.specs.Mask.{choose}
-use Rattle.types.specs.declared.constructor_set.ConstructorSize.the-variants as zone
 use Rattle.types.specs.declared.constructor_set.SizeAnswer.{SizeAnswer}
 use Rattle.types.specs.declared.constructor_set.SizeAnswer.the-variants as size
 use Rattle.types.specs.declared.constructor_set.ConstructorAnswer.{ConstructorAnswer}
 use Rattle.types.specs.declared.constructor_set.ConstructorAnswer.the-variants as constructor
-use Rattle.types.specs.declared.type_code.TypeParts.the-variants as part
-use Rattle.types.specs.declared.type_code.PartsAnswer.{PartsAnswer}
-use Rattle.types.specs.declared.type_code.PartsAnswer.the-variants as parts
 use Rattle.types.specs.declared.type_code.CodeAnswer.{CodeAnswer}
 use Rattle.types.specs.declared.type_code.CodeAnswer.the-variants as code
 use Rattle.types.specs.declared.type_code.LeafScalar.{LeafScalar}
 use Rattle.types.specs.declared.type_code.LeafScalar.the-variants as leaf
 use Rattle.types.specs.declared.conversion.Combination.{Combination}
 use Rattle.types.specs.declared.conversion.Combination.the-variants as combined
-use Rattle.types.specs.TypePaper.{constructorPaper, codePaper, leafPaper, combinationPaper, sizePaper, partsPaper}
+use Rattle.types.specs.TypePaper.{constructorPaper, codePaper, leafPaper, combinationPaper, sizePaper}
+use Rattle.types.proofs.Sizes.{sizeNamed, size-named}
 use Rattle.scalars.proofs.Papers.{read, reads-refused, one-to-one}
 
 abbrev constructorIn : List ℕ → ConstructorAnswer
@@ -29,7 +27,7 @@ constructorIn vs = constructor.Constructor (record { 0 = getD vs 0 0 })
 constructor-back : (a : ConstructorAnswer) → read constructorIn constructor.Refused (constructorPaper a) ≡ a
 unfolding read
 constructor-back (constructor.Constructor k) = refl
-constructor-back (constructor.Refused why) = reads-refused constructorIn constructor.Refused why (255 ∷ [])
+constructor-back (constructor.Refused why) = reads-refused constructorIn constructor.Refused why (unused ∷ [])
 
 pub constructor-one : (a b : ConstructorAnswer) → constructorPaper a ≡ constructorPaper b → a ≡ b
 constructor-one = one-to-one constructorPaper (read constructorIn constructor.Refused) constructor-back
@@ -40,37 +38,21 @@ codeIn vs = code.Code (getD vs 0 0)
 code-back : (a : CodeAnswer) → read codeIn code.Refused (codePaper a) ≡ a
 unfolding read
 code-back (code.Code t) = refl
-code-back (code.Refused why) = reads-refused codeIn code.Refused why (255 ∷ [])
+code-back (code.Refused why) = reads-refused codeIn code.Refused why (unused ∷ [])
 
 pub code-one : (a b : CodeAnswer) → codePaper a ≡ codePaper b → a ≡ b
 code-one = one-to-one codePaper (read codeIn code.Refused) code-back
 
 abbrev sizeIn : List ℕ → SizeAnswer
-sizeIn vs = size.Size (choose (eqb (getD vs 0 0) 0) zone.Scalar (choose (eqb (getD vs 0 0) 1) (zone.Vector (getD vs 1 0)) (zone.Matrix (getD vs 1 0) (getD vs 2 0))))
+sizeIn vs = size.Size (sizeNamed vs)
 
 size-back : (a : SizeAnswer) → read sizeIn size.Refused (sizePaper a) ≡ a
 unfolding read
-size-back (size.Size zone.Scalar) = refl
-size-back (size.Size (zone.Vector n)) = refl
-size-back (size.Size (zone.Matrix c r)) = refl
-size-back (size.Refused why) = reads-refused sizeIn size.Refused why (255 ∷ 255 ∷ 255 ∷ [])
+size-back (size.Size z) = ap size.Size (size-named z)
+size-back (size.Refused why) = reads-refused sizeIn size.Refused why (unused ∷ unused ∷ unused ∷ [])
 
 pub size-one : (a b : SizeAnswer) → sizePaper a ≡ sizePaper b → a ≡ b
 size-one = one-to-one sizePaper (read sizeIn size.Refused) size-back
-
-abbrev partsIn : List ℕ → PartsAnswer
-partsIn vs = parts.Parts (choose (eqb (getD vs 0 0) 0) (part.Value (record { 0 = getD vs 1 0 }) (record { 0 = getD vs 2 0 })) (choose (eqb (getD vs 0 0) 1) part.Other (choose (eqb (getD vs 0 0) 2) (part.Modf (record { 0 = getD vs 1 0 }) (record { 0 = getD vs 2 0 })) (part.Frexp (record { 0 = getD vs 1 0 }) (record { 0 = getD vs 2 0 })))))
-
-parts-back : (a : PartsAnswer) → read partsIn parts.Refused (partsPaper a) ≡ a
-unfolding read
-parts-back (parts.Parts (part.Value k s)) = refl
-parts-back (parts.Parts part.Other) = refl
-parts-back (parts.Parts (part.Modf k s)) = refl
-parts-back (parts.Parts (part.Frexp k s)) = refl
-parts-back (parts.Refused why) = reads-refused partsIn parts.Refused why (255 ∷ 255 ∷ 255 ∷ [])
-
-pub parts-one : (a b : PartsAnswer) → partsPaper a ≡ partsPaper b → a ≡ b
-parts-one = one-to-one partsPaper (read partsIn parts.Refused) parts-back
 
 -- ---- a scalar or none
 
@@ -82,7 +64,7 @@ leaf-back : (a : LeafScalar) → read leafIn leaf.Refused (leafPaper a) ≡ a
 unfolding read
 leaf-back (leaf.Scalar s) = refl
 leaf-back leaf.Nothing = refl
-leaf-back (leaf.Refused why) = reads-refused leafIn leaf.Refused why (255 ∷ [])
+leaf-back (leaf.Refused why) = reads-refused leafIn leaf.Refused why (unused ∷ [])
 
 pub leaf-one : (a b : LeafScalar) → leafPaper a ≡ leafPaper b → a ≡ b
 leaf-one = one-to-one leafPaper (read leafIn leaf.Refused) leaf-back
@@ -95,7 +77,7 @@ combination-back : (a : Combination) → read combinationIn combined.Refused (co
 unfolding read
 combination-back (combined.Scalar s) = refl
 combination-back combined.Nothing = refl
-combination-back (combined.Refused why) = reads-refused combinationIn combined.Refused why (255 ∷ [])
+combination-back (combined.Refused why) = reads-refused combinationIn combined.Refused why (unused ∷ [])
 
 pub combination-one : (a b : Combination) → combinationPaper a ≡ combinationPaper b → a ≡ b
 combination-one = one-to-one combinationPaper (read combinationIn combined.Refused) combination-back

@@ -1,4 +1,5 @@
 -- What a reader must believe of this crate.
+pub mod Domain
 pub mod TypeCode
 pub mod Constructor
 pub mod Conversion

@@ -6,11 +6,13 @@
 ghost use mathlib.Core.Path.{_≡_};
 ghost use Prim.Native.Nat.{_<_, _≤_};
 ghost use lib.ListN.{drop, length};
+ghost use Rattle.scalars.specs.Domain.{scalarCount};
 ghost use Rattle.scalars.specs.Paper.{testPaper, scalarPaper};
 ghost use Rattle.types.specs.TypePaper.{combinationPaper};
 ghost use Rattle.types.specs.Conversion.{convertsTo, combination, combineOf, consensusOf, agree};
-use crate::type_code::VALUES;
+use crate::type_code::LeafScalar;
 use crate::type_code::first_unknown;
+use crate::type_code::leaf_scalar;
 use scalars::Refusal;
 use scalars::Scalar;
 use scalars::ScalarAnswer;
@@ -33,8 +35,9 @@ pub enum Base {
 // No scalar, in the table below.
 const NONE: u8 = 255;
 
-// The combination of scalars a and b, at 12 x a + b: the one that the other converts to, or NONE.
+// The combination of scalars a and b, at `Scalar::COUNT` x a + b: the one that the other converts to, or NONE. A row for each a.
 const COMBINED: [u8; 144] = [
+    // ABSTRACT_INT
     0,
     1,
     2,
@@ -46,138 +49,149 @@ const COMBINED: [u8; 144] = [
     8,
     9,
     10,
-    255,
+    NONE,
+    // ABSTRACT_FLOAT
     1,
     1,
-    255,
-    255,
-    255,
-    255,
-    255,
-    255,
+    NONE,
+    NONE,
+    NONE,
+    NONE,
+    NONE,
+    NONE,
     8,
     9,
     10,
-    255,
+    NONE,
+    // I32
     2,
-    255,
+    NONE,
     2,
-    255,
-    255,
-    255,
-    255,
-    255,
-    255,
-    255,
-    255,
-    255,
+    NONE,
+    NONE,
+    NONE,
+    NONE,
+    NONE,
+    NONE,
+    NONE,
+    NONE,
+    NONE,
+    // I16
     3,
-    255,
-    255,
+    NONE,
+    NONE,
     3,
-    255,
-    255,
-    255,
-    255,
-    255,
-    255,
-    255,
-    255,
+    NONE,
+    NONE,
+    NONE,
+    NONE,
+    NONE,
+    NONE,
+    NONE,
+    NONE,
+    // I64
     4,
-    255,
-    255,
-    255,
+    NONE,
+    NONE,
+    NONE,
     4,
-    255,
-    255,
-    255,
-    255,
-    255,
-    255,
-    255,
+    NONE,
+    NONE,
+    NONE,
+    NONE,
+    NONE,
+    NONE,
+    NONE,
+    // U32
     5,
-    255,
-    255,
-    255,
-    255,
+    NONE,
+    NONE,
+    NONE,
+    NONE,
     5,
-    255,
-    255,
-    255,
-    255,
-    255,
-    255,
+    NONE,
+    NONE,
+    NONE,
+    NONE,
+    NONE,
+    NONE,
+    // U16
     6,
-    255,
-    255,
-    255,
-    255,
-    255,
+    NONE,
+    NONE,
+    NONE,
+    NONE,
+    NONE,
     6,
-    255,
-    255,
-    255,
-    255,
-    255,
+    NONE,
+    NONE,
+    NONE,
+    NONE,
+    NONE,
+    // U64
     7,
-    255,
-    255,
-    255,
-    255,
-    255,
-    255,
+    NONE,
+    NONE,
+    NONE,
+    NONE,
+    NONE,
+    NONE,
     7,
-    255,
-    255,
-    255,
-    255,
+    NONE,
+    NONE,
+    NONE,
+    NONE,
+    // F32
     8,
     8,
-    255,
-    255,
-    255,
-    255,
-    255,
-    255,
+    NONE,
+    NONE,
+    NONE,
+    NONE,
+    NONE,
+    NONE,
     8,
-    255,
-    255,
-    255,
+    NONE,
+    NONE,
+    NONE,
+    // F16
     9,
     9,
-    255,
-    255,
-    255,
-    255,
-    255,
-    255,
-    255,
+    NONE,
+    NONE,
+    NONE,
+    NONE,
+    NONE,
+    NONE,
+    NONE,
     9,
-    255,
-    255,
+    NONE,
+    NONE,
+    // F64
     10,
     10,
-    255,
-    255,
-    255,
-    255,
-    255,
-    255,
-    255,
-    255,
+    NONE,
+    NONE,
+    NONE,
+    NONE,
+    NONE,
+    NONE,
+    NONE,
+    NONE,
     10,
-    255,
-    255,
-    255,
-    255,
-    255,
-    255,
-    255,
-    255,
-    255,
-    255,
-    255,
-    255,
+    NONE,
+    // BOOL
+    NONE,
+    NONE,
+    NONE,
+    NONE,
+    NONE,
+    NONE,
+    NONE,
+    NONE,
+    NONE,
+    NONE,
+    NONE,
     11,
 ];
 
@@ -198,11 +212,11 @@ pub fn automatically_converts_to(from: Scalar, to: Scalar) -> Test
 }
 
 // The combination of two known scalars, or NONE.
-fn combined(a: u8, b: u8) -> u8
-    requires { ⌜ (a < 12) × (b < 12) ⌝ }
-    ensures { λ r. ⌜ r ≡ combination a b ⌝ }
+fn combined(a: Scalar, b: Scalar) -> u8
+    requires { ⌜ (a .0 < scalarCount) × (b .0 < scalarCount) ⌝ }
+    ensures { λ r. ⌜ r ≡ combination (a .0) (b .0) ⌝ }
 {
-    let i = (a as usize) * 12 + (b as usize);
+    let i = (a.0 as usize) * (Scalar::COUNT as usize) + (b.0 as usize);
     COMBINED[i]
 }
 
@@ -216,7 +230,7 @@ pub fn automatic_conversion_combine(a: Scalar, b: Scalar) -> Combination
     if Scalar::COUNT <= b.0 {
         return Combination::Refused(Refusal::Unknown(1));
     }
-    let c = combined(a.0, b.0);
+    let c = combined(a, b);
     if c == NONE {
         return Combination::Nothing;
     }
@@ -245,7 +259,7 @@ fn consensus_with(base: Scalar, components: &[u8]) -> ScalarAnswer
     if known < components.len() {
         return ScalarAnswer::Refused(Refusal::Unknown(1 + known));
     }
-    agree_from(components, 0, base.0)
+    agree_from(components, 0, base)
 }
 
 // The consensus with the first component as its base.
@@ -259,31 +273,29 @@ fn consensus_without(components: &[u8]) -> ScalarAnswer
     if components.len() == 0 {
         return ScalarAnswer::Refused(Refusal::NothingToCombine);
     }
-    let first = components[0];
-    if VALUES <= first {
+    let LeafScalar::Scalar(first) = leaf_scalar(components[0]) else {
         return ScalarAnswer::Refused(Refusal::NoConsensus(0));
-    }
-    agree_from(components, 1, first % 12)
+    };
+    agree_from(components, 1, first)
 }
 
-// The consensus of `best` and the components from `start` on, each blamed by its own index.
-fn agree_from(components: &[u8], start: usize, base: u8) -> ScalarAnswer
-    requires { ⌜ (base < 12) × (start ≤ length (now components)) ⌝ }
-    ensures { λ r. ⌜ scalarPaper r ≡ agree base start (drop start (now (components .entry))) ⌝ }
+// The consensus of `base` and the components from `start` on, each blamed by its own index.
+fn agree_from(components: &[u8], start: usize, base: Scalar) -> ScalarAnswer
+    requires { ⌜ (base .0 < scalarCount) × (start ≤ length (now components)) ⌝ }
+    ensures { λ r. ⌜ scalarPaper r ≡ agree (base .0) start (drop start (now (components .entry))) ⌝ }
 {
     let mut best = base;
     let mut i = start;
     while i < components.len() {
-        let code = components[i];
-        if VALUES <= code {
+        let LeafScalar::Scalar(scalar) = leaf_scalar(components[i]) else {
             return ScalarAnswer::Refused(Refusal::NoConsensus(i));
-        }
-        let next = combined(best, code % 12);
+        };
+        let next = combined(best, scalar);
         if next == NONE {
             return ScalarAnswer::Refused(Refusal::NoConsensus(i));
         }
-        best = next;
+        best = Scalar(next);
         i += 1;
     }
-    ScalarAnswer::Scalar(Scalar(best))
+    ScalarAnswer::Scalar(best)
 }

@@ -5,22 +5,29 @@
 
 ghost use mathlib.Core.Path.{_≡_};
 ghost use Prim.Native.Nat.{_≤_};
-ghost use Rattle.scalars.specs.Domain.{firstUnknown, isAbstract};
-ghost use Rattle.types.specs.TypePaper.{partsPaper, codePaper, leafPaper};
-ghost use Rattle.types.specs.TypeCode.{PartsOf, codeOf, valueCode, predeclaredCode, leafScalar};
+ghost use Rattle.types.specs.Domain.{firstUnknown, isAbstract};
+ghost use Rattle.types.specs.TypePaper.{codePaper, leafPaper};
+ghost use Rattle.types.specs.TypeCode.{codeOf, valueCode, predeclaredCode, leafScalar, firstFrexp};
 use crate::constructor_set::Constructor;
+use crate::constructor_set::FIRST_MATRIX;
 use scalars::Refusal;
 use scalars::Scalar;
 
-// How many codes are value types; the first of these that is not one stands for every other type.
-pub const VALUES: u8 = 156;
+// How many codes are value types; the first code that is not one stands for every other type.
+pub const VALUES: u8 = Constructor::COUNT * Scalar::COUNT;
 
-// The last code of all, and the first codes of what Modf and Frexp answer.
-pub const LAST_CODE: u8 = 180;
+// Modf and Frexp answer for scalars and vectors of the three concrete floats: the first code of either, and the last of all.
+const MODF: u8 = VALUES + 1;
 
-const MODF: u8 = 157;
+const FREXP: u8 = MODF + FIRST_MATRIX * FLOATS;
 
-const FREXP: u8 = 169;
+pub const LAST_CODE: u8 = FREXP + FIRST_MATRIX * FLOATS - 1;
+
+const FIRST_FLOAT: u8 = Scalar::F32.0;
+
+const LAST_FLOAT: u8 = Scalar::F64.0;
+
+const FLOATS: u8 = LAST_FLOAT - FIRST_FLOAT + 1;
 
 // What a type code stands for.
 pub enum TypeParts {
@@ -28,12 +35,6 @@ pub enum TypeParts {
     Other,
     Modf(Constructor, Scalar),
     Frexp(Constructor, Scalar),
-}
-
-// The answer where the parts of a type are asked for.
-pub enum PartsAnswer {
-    Parts(TypeParts),
-    Refused(Refusal),
 }
 
 // The answer where a type code is asked for.
@@ -47,27 +48,6 @@ pub enum LeafScalar {
     Scalar(Scalar),
     Nothing,
     Refused(Refusal),
-}
-
-// What the code stands for. Refused 7 above 180.
-pub fn type_parts(code: u8) -> PartsAnswer
-    ensures { λ r. ⌜ PartsOf code (partsPaper r) ⌝ }
-{
-    if code < VALUES {
-        return PartsAnswer::Parts(TypeParts::Value(Constructor(code / 12), Scalar(code % 12)));
-    }
-    if code == VALUES {
-        return PartsAnswer::Parts(TypeParts::Other);
-    }
-    if code < FREXP {
-        let n = code - MODF;
-        return PartsAnswer::Parts(TypeParts::Modf(Constructor(n / 3), Scalar(8 + n % 3)));
-    }
-    if code <= LAST_CODE {
-        let n = code - FREXP;
-        return PartsAnswer::Parts(TypeParts::Frexp(Constructor(n / 3), Scalar(8 + n % 3)));
-    }
-    PartsAnswer::Refused(Refusal::Unknown(0))
 }
 
 // The code of the parts. Refused 7 at 0 for an unknown constructor, at 1 for an unknown scalar; then 13 for what Modf and Frexp
@@ -95,12 +75,12 @@ pub(crate) fn value_code(constructor: Constructor, scalar: Scalar) -> CodeAnswer
     if Scalar::COUNT <= s {
         return CodeAnswer::Refused(Refusal::Unknown(1));
     }
-    CodeAnswer::Code(k * 12 + s)
+    CodeAnswer::Code(k * Scalar::COUNT + s)
 }
 
 // The code of what Modf or Frexp answers, of which `first` is the first: for scalars and vectors of F32, F16 and F64.
 fn predeclared_code(first: u8, constructor: Constructor, scalar: Scalar) -> CodeAnswer
-    requires { ⌜ first ≤ 169 ⌝ }
+    requires { ⌜ first ≤ firstFrexp ⌝ }
     ensures { λ r. ⌜ codePaper r ≡ predeclaredCode first (constructor .0) (scalar .0) ⌝ }
 {
     let k = constructor.0;
@@ -111,16 +91,16 @@ fn predeclared_code(first: u8, constructor: Constructor, scalar: Scalar) -> Code
     if Scalar::COUNT <= s {
         return CodeAnswer::Refused(Refusal::Unknown(1));
     }
-    if 4 <= k {
+    if FIRST_MATRIX <= k {
         return CodeAnswer::Refused(Refusal::NoConclusion);
     }
-    if s < 8 {
+    if s < FIRST_FLOAT {
         return CodeAnswer::Refused(Refusal::NoConclusion);
     }
-    if 10 < s {
+    if LAST_FLOAT < s {
         return CodeAnswer::Refused(Refusal::NoConclusion);
     }
-    CodeAnswer::Code(first + k * 3 + (s - 8))
+    CodeAnswer::Code(first + k * FLOATS + (s - FIRST_FLOAT))
 }
 
 // The scalar of the type: of a value type; the others have none. Refused 7 above 180.
@@ -128,7 +108,7 @@ pub fn leaf_scalar(code: u8) -> LeafScalar
     ensures { λ r. ⌜ leafPaper r ≡ leafScalar code ⌝ }
 {
     if code < VALUES {
-        return LeafScalar::Scalar(Scalar(code % 12));
+        return LeafScalar::Scalar(Scalar(code % Scalar::COUNT));
     }
     if code <= LAST_CODE {
         return LeafScalar::Nothing;
@@ -140,10 +120,10 @@ pub fn leaf_scalar(code: u8) -> LeafScalar
 pub fn is_abstract(code: u8) -> bool
     ensures { λ r. ⌜ r ≡ isAbstract code ⌝ }
 {
-    if VALUES <= code {
+    let LeafScalar::Scalar(scalar) = leaf_scalar(code) else {
         return false;
-    }
-    code % 12 <= 1
+    };
+    scalar.0 <= Scalar::ABSTRACT_FLOAT.0
 }
 
 // The index of the first code above LAST_CODE, or the number of codes.

@@ -1,13 +1,7 @@
--- The laws that the proofs of the functions cite, and the theorems: Demand3, OurFunctions and Readings.
-pub mod Exact
-pub mod Own
+-- The laws that the proofs of the functions cite.
 pub mod Room
-pub mod Runs
-pub mod Operands
-pub mod Demand3
 pub mod Written
 pub mod Conversions
-pub mod Placing
 pub mod CallFacts
 pub mod Calls
 pub mod Pushes
@@ -15,7 +9,4 @@ pub mod Typings
 pub mod Passes
 pub mod Whole
 pub mod RootAnswers
-pub mod Papers
 pub mod Lengths
-pub mod Readings
-pub mod OurFunctions

@@ -8,39 +8,36 @@ use Prim.Native.Nat.{ℕ, _+_, _-_, _*_, _≤_, _<_}
 use native.Mathlib.Omega.{arith}
 use lib.ListN.{length, getD, drop, length-append}
 use Rattle.calls.specs.Choice.{Choice, chosen, wrongCount, noneAfter, noneConcrete, resolve}
-use Rattle.functions.specs.Functions.{functionCount, listingOf}
+use Rattle.functions.specs.Functions.{listingOf}
 use Rattle.scalars.specs.declared.refusal.Refusal.{Refusal}
-use Rattle.scalars.specs.Paper.{refusal}
+use Rattle.scalars.specs.Paper.{refusal, verdictPaper}
 use Rattle.worksheet.specs.declared.sheet.Sheet.{Sheet}
 use Rattle.worksheet.specs.declared.stack.Stack.{Stack}
 use Rattle.worksheet.specs.declared.progress.Progress.{Progress}
-use Rattle.worksheet.specs.declared.progress.Verdict.{Verdict}
-use Rattle.worksheet.specs.declared.progress.Verdict.the-variants.{Clean, Wrong}
+use Rattle.scalars.specs.declared.answer.Verdict.{Verdict}
+use Rattle.scalars.specs.declared.answer.Verdict.the-variants.{Accepted, Refused}
 use Rattle.expressions.specs.Tree.{Tree, Trees, leaf, call, none, more, count, bytesOf, bytesOfAll, nodes, nodesAll}
-use Rattle.expressions.specs.claims.Limits.{Known, KnownAll}
 use Rattle.machine.specs.Line.{Line, leafMark, callLines, encode}
 use Rattle.machine.specs.Machine.{mostOperands}
-use Rattle.worksheet.specs.claims.Room.{enoughBytes}
+use Rattle.worksheet.specs.private.Sheet.{enoughBytes, Wrote}
 use Rattle.worksheet.specs.Places.{inside, behind, starts}
 use Rattle.worksheet.specs.Typer.{Typed, typed, refused, conclude, typeOf, typeAll}
-use Rattle.worksheet.specs.private.Sheet.{Wrote}
 use Rattle.worksheet.specs.private.Stack.{typesOn, startsOn, Counted, Pushed}
-use Rattle.worksheet.specs.private.SecondPass.{foundPaper, Went, CallThere, CallClaim, CallTyped, NodeThere, NodeClaim, NodeTyped, ArgsThere, ArgsClaim, ArgsTyped}
+use Rattle.worksheet.specs.private.SecondPass.{Went, CallThere, CallClaim, CallTyped, NodeThere, NodeClaim, NodeTyped, ArgsThere, ArgsClaim, ArgsTyped}
 use Rattle.expressions.proofs.Answers.{accepted-refused}
 use Rattle.expressions.proofs.Bytes.{after, leaf-there, call-there, bytes-least}
 use Rattle.machine.proofs.LineBytes.{encode-append}
-use Rattle.worksheet.proofs.Exact.{before, concludeCall}
+use Rattle.worksheet.proofs.Typings.{before, concludeCall, Sized, sized, SizedAll, sized-all, starts-many, nodes-least, count-nodes}
 use Rattle.worksheet.proofs.Room.{four-each}
 use Rattle.worksheet.proofs.Written.{wrote-nothing, wrote-both, wrote-as}
 use Rattle.worksheet.proofs.Pushes.{pushed-nothing, pushed-both, pushed-full}
-use Rattle.worksheet.proofs.Typings.{Sized, sized, SizedAll, sized-all, starts-many, nodes-least, count-nodes}
 
 -- a verdict cannot be both
-pub clash : {A : Type 0} {v : Verdict} {n p : ℕ} → v ≡ Clean → foundPaper v ≡ refusal n p [] → A
-clash c w = accepted-refused (sym (ap foundPaper c) ∙ w)
+pub clash : {A : Type 0} {v : Verdict} {n p : ℕ} → v ≡ Accepted → verdictPaper v ≡ refusal n p [] → A
+clash c w = accepted-refused (sym (ap verdictPaper c) ∙ w)
 
 abbrev clean : ℕ → Stack → Sheet → Progress
-clean at s h = record { verdict = Clean; at = at; stack = s; sheet = h }
+clean at s h = record { verdict = Accepted; at = at; stack = s; sheet = h }
 
 module _ (b : List ℕ) (at : ℕ) (s : Stack) (h : Sheet) where
   pub two-bytes : NodeThere b at s h → at + 1 < length b
@@ -57,7 +54,7 @@ module _ (b : List ℕ) (at : ℕ) (s : Stack) (h : Sheet) where
   pub leaf-typed : (switch : Bool) (s′ : Stack) (h′ : Sheet) → getD b at 0 ≡ 0 → Pushed s (getD b (at + 1) 0 ∷ []) (at ∷ []) s′
       → Wrote h (leafMark ∷ getD b (at + 1) 0 ∷ 0 ∷ 0 ∷ []) h′ → NodeTyped b at switch s h (clean (at + 2) s′ h′)
   unfolding NodeTyped typeOf bytesOf encode
-  leaf-typed switch s′ h′ tag p w (leaf l) tail t k =
+  leaf-typed switch s′ h′ tag p w (leaf l) tail t =
       let there = leaf-there b at l tail t in
       record {
         verdict-is = refl;
@@ -65,7 +62,7 @@ module _ (b : List ℕ) (at : ℕ) (s : Stack) (h : Sheet) where
         pushed = rw (there .type-is) at p;
         wrote = rw (there .type-is) at w;
       }
-  leaf-typed switch s′ h′ tag p w (call f es) tail t k = absurd (omega (arith, call-there b at f es tail t .tag))
+  leaf-typed switch s′ h′ tag p w (call f es) tail t = absurd (omega (arith, call-there b at f es tail t .tag))
 
   module _ (no-leaf : getD b at 0 ≡ 0 → ⊥) where
     pub three-bytes : NodeThere b at s h → at + 2 < length b
@@ -76,21 +73,20 @@ module _ (b : List ℕ) (at : ℕ) (s : Stack) (h : Sheet) where
         go (call f es) t = call-there b at f es (n .tail) t .here
 
     pub args-there : NodeThere b at s h → ArgsThere b (at + 3) (getD b (at + 2) 0) s h
-    unfolding nodes Known
-    args-there n = go (n .tree) (n .text) (n .known) (n .stack-room) (n .sheet-room)
+    unfolding nodes
+    args-there n = go (n .tree) (n .text) (n .stack-room) (n .sheet-room)
       where
-        go : (e : Tree) → drop at b ≡ bytesOf e ++ n .tail → Known functionCount e → s .top + nodes e ≤ mostOperands
+        go : (e : Tree) → drop at b ≡ bytesOf e ++ n .tail → s .top + nodes e ≤ mostOperands
             → h .len + 8 * nodes e ≤ enoughBytes + 4
             → ArgsThere b (at + 3) (getD b (at + 2) 0) s h
-        go (leaf l) t k u v = absurd (no-leaf (leaf-there b at l (n .tail) t .tag))
-        go (call f es) t k u v =
+        go (leaf l) t u v = absurd (no-leaf (leaf-there b at l (n .tail) t .tag))
+        go (call f es) t u v =
             let there = call-there b at f es (n .tail) t in
             record {
               trees = es;
               tail = n .tail;
               many = sym (there .number);
               text = there .arguments;
-              known = k .1;
               full = n .full;
               stack-room = omega arith;
               sheet-room = omega arith;
@@ -98,23 +94,23 @@ module _ (b : List ℕ) (at : ℕ) (s : Stack) (h : Sheet) where
 
     module _ (switch : Bool) (i : Progress) (inner : ArgsTyped b (at + 3) (getD b (at + 2) 0) switch s h i) where
       -- a fault among the arguments
-      pub call-wrong : (why : Refusal) → i .verdict ≡ Wrong why → NodeTyped b at switch s h i
-      unfolding NodeTyped ArgsTyped typeOf Known
-      call-wrong why w (leaf l) tail t k = absurd (no-leaf (leaf-there b at l tail t .tag))
-      call-wrong why w (call f es) tail t k =
+      pub call-wrong : (why : Refusal) → i .verdict ≡ Refused why → NodeTyped b at switch s h i
+      unfolding NodeTyped ArgsTyped typeOf
+      call-wrong why w (leaf l) tail t = absurd (no-leaf (leaf-there b at l tail t .tag))
+      call-wrong why w (call f es) tail t =
           let there = call-there b at f es tail t in
-          go (typeAll listingOf switch es (inside at)) (inner es tail (sym (there .number)) (there .arguments) (k .1))
+          go (typeAll listingOf switch es (inside at)) (inner es tail (sym (there .number)) (there .arguments))
         where
           go : (x : Typed (List ℕ)) → ArgsClaim es (inside at) s h i x
               → NodeClaim (call f es) at s h i (concludeCall listingOf switch f at (starts es (inside at)) x)
           go (refused k p) c = c
-          go (typed ts ls) c = clash (c .verdict-is) (ap foundPaper w)
+          go (typed ts ls) c = clash (c .verdict-is) (ap verdictPaper w)
 
-      module _ (w : i .verdict ≡ Clean) where
+      module _ (w : i .verdict ≡ Accepted) where
         -- the operands are on the stack, with room for the call's lines
         pub call-room : NodeThere b at s h → CallThere (getD b (at + 2) 0) (i .stack) (i .sheet)
-        unfolding ArgsTyped nodes Known
-        call-room n = go (n .tree) (n .text) (n .known) (n .stack-room) (n .sheet-room)
+        unfolding ArgsTyped nodes
+        call-room n = go (n .tree) (n .text) (n .stack-room) (n .sheet-room)
           where
             among : (f : ℕ) (es : Trees) → getD b (at + 2) 0 ≡ count es → s .top + nodes (call f es) ≤ mostOperands
                 → h .len + 8 * nodes (call f es) ≤ enoughBytes + 4
@@ -129,14 +125,14 @@ module _ (b : List ℕ) (at : ℕ) (s : Stack) (h : Sheet) where
                 let nodes-few = count-nodes es in
                 record { enough = omega arith; bounded = omega arith; room = omega arith }
 
-            go : (e : Tree) → drop at b ≡ bytesOf e ++ n .tail → Known functionCount e → s .top + nodes e ≤ mostOperands
+            go : (e : Tree) → drop at b ≡ bytesOf e ++ n .tail → s .top + nodes e ≤ mostOperands
                 → h .len + 8 * nodes e ≤ enoughBytes + 4
                 → CallThere (getD b (at + 2) 0) (i .stack) (i .sheet)
-            go (leaf l) t k u v = absurd (no-leaf (leaf-there b at l (n .tail) t .tag))
-            go (call f es) t k u v =
+            go (leaf l) t u v = absurd (no-leaf (leaf-there b at l (n .tail) t .tag))
+            go (call f es) t u v =
                 let there = call-there b at f es (n .tail) t in
                 among f es (there .number) u v (typeAll listingOf switch es (inside at))
-                (inner es (n .tail) (sym (there .number)) (there .arguments) (k .1)) (sized-all switch es (inside at) (k .1))
+                (inner es (n .tail) (sym (there .number)) (there .arguments)) (sized-all switch es (inside at))
 
         -- what is concluded of the operands
         concluded : (f : ℕ) (es : Trees) (ts : List ℕ) (ls : List Line) (r : Progress) → Counted s
@@ -156,12 +152,12 @@ module _ (b : List ℕ) (at : ℕ) (s : Stack) (h : Sheet) where
 
         pub call-typed : NodeThere b at s h → (r : Progress)
             → CallTyped (getD b (at + 1) 0) (getD b (at + 2) 0) at (i .at) switch (i .stack) (i .sheet) r → NodeTyped b at switch s h r
-        unfolding NodeTyped ArgsTyped CallTyped typeOf Known
-        call-typed n r made (leaf l) tail t k = absurd (no-leaf (leaf-there b at l tail t .tag))
-        call-typed n r made (call f es) tail t k =
+        unfolding NodeTyped ArgsTyped CallTyped typeOf
+        call-typed n r made (leaf l) tail t = absurd (no-leaf (leaf-there b at l tail t .tag))
+        call-typed n r made (call f es) tail t =
             let there = call-there b at f es tail t in
             go (there .function) (there .number) (typeAll listingOf switch es (inside at))
-            (inner es tail (sym (there .number)) (there .arguments) (k .1)) (sized-all switch es (inside at) (k .1))
+            (inner es tail (sym (there .number)) (there .arguments)) (sized-all switch es (inside at))
           where
             go : getD b (at + 1) 0 ≡ f → getD b (at + 2) 0 ≡ count es
                 → (x : Typed (List ℕ)) → ArgsClaim es (inside at) s h i x → SizedAll es x
@@ -177,27 +173,26 @@ module _ (b : List ℕ) (at : ℕ) (s : Stack) (h : Sheet) where
                 concluded f es ts ls r full c (resolve switch (listingOf f) ts)
                 (rw fe at made (typesOn s) ts (startsOn s) (starts es (inside at)) (c .pushed .types-are) (c .pushed .starts-are)
                 (omega arith) (omega arith)
-                (omega arith) (omega arith) (omega (arith, k .0)) (z .known))
+                (omega arith) (omega arith))
 
 module _ (b : List ℕ) (at left : ℕ) (switch : Bool) (s : Stack) (h : Sheet) where
   pub args-none : left ≡ 0 → ArgsTyped b at left switch s h (clean at s h)
   unfolding ArgsTyped typeOf bytesOf starts count encode
-  args-none e none tail m t k = record { verdict-is = refl; at-is = omega arith; pushed = pushed-nothing s; wrote = wrote-nothing h }
-  args-none e (more x es) tail m t k = absurd (omega arith)
+  args-none e none tail m t = record { verdict-is = refl; at-is = omega arith; pushed = pushed-nothing s; wrote = wrote-nothing h }
+  args-none e (more x es) tail m t = absurd (omega arith)
 
   module _ (some : left ≡ 0 → ⊥) where
     pub node-there : ArgsThere b at left s h → NodeThere b at s h
-    unfolding bytesOf nodes count Known
-    node-there n = go (n .trees) (n .many) (n .text) (n .known) (n .stack-room) (n .sheet-room)
+    unfolding bytesOf nodes count
+    node-there n = go (n .trees) (n .many) (n .text) (n .stack-room) (n .sheet-room)
       where
-        go : (es : Trees) → count es ≡ left → drop at b ≡ bytesOfAll es ++ n .tail → KnownAll functionCount es
+        go : (es : Trees) → count es ≡ left → drop at b ≡ bytesOfAll es ++ n .tail
             → s .top + nodesAll es < mostOperands → h .len + 8 * nodesAll es + 4 ≤ enoughBytes → NodeThere b at s h
-        go none m t k u v = absurd (some (sym m))
-        go (more e es) m t k u v = record {
+        go none m t u v = absurd (some (sym m))
+        go (more e es) m t u v = record {
           tree = e;
           tail = bytesOfAll es ++ n .tail;
           text = t ∙ append-assoc (bytesOf e) (bytesOfAll es) (n .tail);
-          known = k .0;
           full = n .full;
           stack-room = omega arith;
           sheet-room = omega arith;
@@ -205,30 +200,30 @@ module _ (b : List ℕ) (at left : ℕ) (switch : Bool) (s : Stack) (h : Sheet) 
 
     module _ (i : Progress) (one : NodeTyped b at switch s h i) where
       -- a fault in the first argument
-      pub args-wrong : (why : Refusal) → i .verdict ≡ Wrong why → ArgsTyped b at left switch s h i
-      unfolding NodeTyped ArgsTyped typeOf bytesOf count Known
-      args-wrong why w none tail m t k = absurd (some (sym m))
-      args-wrong why w (more e es) tail m t k =
+      pub args-wrong : (why : Refusal) → i .verdict ≡ Refused why → ArgsTyped b at left switch s h i
+      unfolding NodeTyped ArgsTyped typeOf bytesOf count
+      args-wrong why w none tail m t = absurd (some (sym m))
+      args-wrong why w (more e es) tail m t =
           go (typeOf listingOf switch e at) (typeAll listingOf switch es (behind e at))
-          (one e (bytesOfAll es ++ tail) (t ∙ append-assoc (bytesOf e) (bytesOfAll es) tail) (k .0))
+          (one e (bytesOfAll es ++ tail) (t ∙ append-assoc (bytesOf e) (bytesOfAll es) tail))
         where
           go : (x : Typed ℕ) (y : Typed (List ℕ)) → NodeClaim e at s h i x → ArgsClaim (more e es) at s h i (before x y)
           go (refused k p) y c = c
-          go (typed u ls) y c = clash (c .verdict-is) (ap foundPaper w)
+          go (typed u ls) y c = clash (c .verdict-is) (ap verdictPaper w)
 
-      module _ (w : i .verdict ≡ Clean) where
+      module _ (w : i .verdict ≡ Accepted) where
         pub next-there : ArgsThere b at left s h
             → ArgsThere b (i .at) (left - 1) (i .stack) (i .sheet) × (at < i .at) × (at < length b)
-        unfolding NodeTyped bytesOf nodes count Known
-        next-there n = go (n .trees) (n .many) (n .text) (n .known) (n .stack-room) (n .sheet-room)
+        unfolding NodeTyped bytesOf nodes count
+        next-there n = go (n .trees) (n .many) (n .text) (n .stack-room) (n .sheet-room)
           where
             behind-it : (e : Tree) (es : Trees) → count (more e es) ≡ left → drop at b ≡ bytesOf e ++ (bytesOfAll es ++ n .tail)
-                → KnownAll functionCount es → s .top + nodesAll (more e es) < mostOperands
+                → s .top + nodesAll (more e es) < mostOperands
                 → h .len + 8 * nodesAll (more e es) + 4 ≤ enoughBytes
                 → (x : Typed ℕ) → NodeClaim e at s h i x → Sized e x
                 → ArgsThere b (i .at) (left - 1) (i .stack) (i .sheet) × (at < i .at) × (at < length b)
-            behind-it e es m t k u v (refused j p) c z = clash w c
-            behind-it e es m t k u v (typed y ls) c z =
+            behind-it e es m t u v (refused j p) c z = clash w c
+            behind-it e es m t u v (typed y ls) c z =
                 let top = c .pushed .top-is in
                 let len = c .wrote .len-is in
                 let four = four-each ls in
@@ -242,7 +237,6 @@ module _ (b : List ℕ) (at left : ℕ) (switch : Bool) (s : Stack) (h : Sheet) 
                     tail = n .tail;
                     many = omega arith;
                     text = ap (λ j. drop j b) (c .at-is) ∙ after b (bytesOf e) (bytesOfAll es ++ n .tail) at t;
-                    known = k;
                     full = pushed-full (n .full) refl (c .pushed);
                     stack-room = omega arith;
                     sheet-room = omega arith;
@@ -251,14 +245,14 @@ module _ (b : List ℕ) (at left : ℕ) (switch : Bool) (s : Stack) (h : Sheet) 
                   omega arith,
                 )
 
-            go : (es : Trees) → count es ≡ left → drop at b ≡ bytesOfAll es ++ n .tail → KnownAll functionCount es
+            go : (es : Trees) → count es ≡ left → drop at b ≡ bytesOfAll es ++ n .tail
                 → s .top + nodesAll es < mostOperands → h .len + 8 * nodesAll es + 4 ≤ enoughBytes
                 → ArgsThere b (i .at) (left - 1) (i .stack) (i .sheet) × (at < i .at) × (at < length b)
-            go none m t k u v = absurd (some (sym m))
-            go (more e es) m t k u v =
+            go none m t u v = absurd (some (sym m))
+            go (more e es) m t u v =
                 let t′ : drop at b ≡ bytesOf e ++ (bytesOfAll es ++ n .tail) = t ∙ append-assoc (bytesOf e) (bytesOfAll es) (n .tail) in
-                behind-it e es m t′ (k .1) u v (typeOf listingOf switch e at) (one e (bytesOfAll es ++ n .tail) t′ (k .0))
-                (sized switch e at (k .0))
+                behind-it e es m t′ u v (typeOf listingOf switch e at) (one e (bytesOfAll es ++ n .tail) t′)
+                (sized switch e at)
 
         -- one argument and those behind it
         both-went : (e : Tree) (es : Trees) (t : ℕ) (ls : List Line) (r : Progress) → Went (behind e at) (t ∷ []) (at ∷ []) ls s h i
@@ -273,11 +267,11 @@ module _ (b : List ℕ) (at left : ℕ) (switch : Bool) (s : Stack) (h : Sheet) 
         }
 
         pub args-typed : (r : Progress) → ArgsTyped b (i .at) (left - 1) switch (i .stack) (i .sheet) r → ArgsTyped b at left switch s h r
-        unfolding NodeTyped ArgsTyped typeOf bytesOf count Known
-        args-typed r rest none tail m t k = absurd (some (sym m))
-        args-typed r rest (more e es) tail m t k =
+        unfolding NodeTyped ArgsTyped typeOf bytesOf count
+        args-typed r rest none tail m t = absurd (some (sym m))
+        args-typed r rest (more e es) tail m t =
             let t′ : drop at b ≡ bytesOf e ++ (bytesOfAll es ++ tail) = t ∙ append-assoc (bytesOf e) (bytesOfAll es) tail in
-            go t′ (typeOf listingOf switch e at) (one e (bytesOfAll es ++ tail) t′ (k .0))
+            go t′ (typeOf listingOf switch e at) (one e (bytesOfAll es ++ tail) t′)
           where
             go : drop at b ≡ bytesOf e ++ (bytesOfAll es ++ tail) → (x : Typed ℕ) → NodeClaim e at s h i x
                 → ArgsClaim (more e es) at s h r (before x (typeAll listingOf switch es (behind e at)))
@@ -285,4 +279,4 @@ module _ (b : List ℕ) (at left : ℕ) (switch : Bool) (s : Stack) (h : Sheet) 
             go t′ (typed u ls) c =
                 both-went e es u ls r c (typeAll listingOf switch es (behind e at))
                 (subst (λ j. ArgsClaim es j (i .stack) (i .sheet) r (typeAll listingOf switch es j)) (c .at-is)
-                (rest es tail (omega arith) (ap (λ j. drop j b) (c .at-is) ∙ after b (bytesOf e) (bytesOfAll es ++ tail) at t′) (k .1)))
+                (rest es tail (omega arith) (ap (λ j. drop j b) (c .at-is) ∙ after b (bytesOf e) (bytesOfAll es ++ tail) at t′)))

@@ -15,17 +15,15 @@ use Rattle.worksheet.specs.declared.sheet.Sheet.{Sheet}
 use Rattle.worksheet.specs.declared.stack.Stack.{Stack}
 use Rattle.worksheet.specs.declared.progress.Progress.{Progress}
 use Rattle.expressions.specs.Tree.{Tree, bytesOf}
-use Rattle.expressions.specs.claims.Limits.{WellFormed}
 use Rattle.expressions.specs.Reading.{read, expressionOf, readOf}
 use Rattle.machine.specs.Line.{Line, encode}
 use Rattle.worksheet.specs.Typer.{Typed, typed, refused, typeOf}
 use Rattle.worksheet.specs.Answer.{withRoom, bufferAfter}
-use Rattle.worksheet.specs.claims.Room.{enoughBytes}
+use Rattle.worksheet.specs.private.Sheet.{enoughBytes, written, roomFor, placed}
 use Rattle.worksheet.specs.Typing.{typingOf, typing, noType, answerOf}
-use Rattle.worksheet.specs.private.Sheet.{written, roomFor, placed}
 use Rattle.worksheet.specs.private.Stack.{typesOn}
 use Rattle.worksheet.specs.private.SecondPass.{NodeThere, NodeClaim, NodeTyped, SheetFits, roomAnswer, rootAnswer, rootBuffer}
-use Rattle.expressions.proofs.AcceptsExactly.{accepts-only}
+use Rattle.expressions.proofs.Sound.{Spelt, read-spelt}
 use Rattle.expressions.proofs.Answers.{accepted-tree, refused-fault}
 use Rattle.worksheet.proofs.Room.{four-each}
 use Rattle.worksheet.proofs.Pushes.{empty-full}
@@ -60,39 +58,38 @@ module _ (switch : Bool) (s d : List ℕ) where
   first-fault n p e = rw (refused-fault (expressionOf functionCount s) n p e) (refl, refl)
 
   module _ (n : ℕ) (ok : accepted (n ∷ []) ≡ readOf (expressionOf functionCount s)) where
-    tree : (e : Tree) × (expressionOf functionCount s ≡ read e) × (drop 0 s ≡ bytesOf e ++ []) × WellFormed functionCount e
+    tree : (e : Tree) × (expressionOf functionCount s ≡ read e) × (drop 0 s ≡ bytesOf e ++ []) × Spelt functionCount s e
     tree =
         let (e, x, m) = accepted-tree (expressionOf functionCount s) n ok in
-        let (text, formed) = accepts-only functionCount s e x in
-        (e, x, text ∙ sym (append-nil (bytesOf e)), formed)
+        let spelt = read-spelt functionCount s e x in
+        (e, x, spelt .text ∙ sym (append-nil (bytesOf e)), spelt)
 
     module _ (st : Stack) (h : Sheet) (top : st .top ≡ 0) (len : h .len ≡ 0) where
       pub root-there : NodeThere s 0 st h
       root-there =
-          let (e, x, text, formed) = tree in
+          let (e, x, text, spelt) = tree in
           record {
             tree = e;
             tail = [];
             text = text;
-            known = formed .known;
             full = empty-full st top;
-            stack-room = omega (arith, formed .few);
-            sheet-room = omega (arith, formed .few);
+            stack-room = omega (arith, spelt .few);
+            sheet-room = omega (arith, spelt .few);
           }
 
       module _ (r : Progress) (done : NodeTyped s 0 switch st h r) where
-        claim : (e : Tree) → drop 0 s ≡ bytesOf e ++ [] → WellFormed functionCount e → NodeClaim e 0 st h r (typeOf listingOf switch e 0)
+        claim : (e : Tree) → drop 0 s ≡ bytesOf e ++ [] → NodeClaim e 0 st h r (typeOf listingOf switch e 0)
         unfolding NodeTyped
-        claim e text formed = done e [] text (formed .known)
+        claim e text = done e [] text
 
         pub root-fits : SheetFits r
         root-fits clean =
-            let (e, x, text, formed) = tree in
-            go e formed (typeOf listingOf switch e 0) (claim e text formed) (sized switch e 0 (formed .known))
+            let (e, x, text, spelt) = tree in
+            go e spelt (typeOf listingOf switch e 0) (claim e text) (sized switch e 0)
           where
-            go : (e : Tree) → WellFormed functionCount e → (x : Typed ℕ) → NodeClaim e 0 st h r x → Sized e x → r .sheet .len ≤ enoughBytes
-            go e formed (refused k p) c z = clash clean c
-            go e formed (typed t ls) c z = omega (arith, c .wrote .len-is, four-each ls, z .few, formed .few)
+            go : (e : Tree) → Spelt functionCount s e → (x : Typed ℕ) → NodeClaim e 0 st h r x → Sized e x → r .sheet .len ≤ enoughBytes
+            go e spelt (refused k p) c z = clash clean c
+            go e spelt (typed t ls) c z = omega (arith, c .wrote .len-is, four-each ls, z .few, spelt .few)
 
         -- the second pass is the typing of the tree, without the room
         typed-root : (e : Tree) (x : Typed ℕ) → NodeClaim e 0 st h r x → Answered d (withRoom d x) (rootAnswer r (length d)) (rootBuffer r d)
@@ -109,5 +106,5 @@ module _ (switch : Bool) (s d : List ℕ) where
         pub root-answer : Answered d (typing switch s d) (rootAnswer r (length d)) (rootBuffer r d)
         unfolding typingOf
         root-answer =
-            let (e, x, text, formed) = tree in
-            rw x (typed-root e (typeOf listingOf switch e 0) (claim e text formed))
+            let (e, x, text, spelt) = tree in
+            rw x (typed-root e (typeOf listingOf switch e 0) (claim e text))

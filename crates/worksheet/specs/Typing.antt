@@ -28,10 +28,10 @@ typingOf functions listing switch s buffer = afterReading listing switch buffer 
 abbrev pub typing : Bool → List ℕ → List ℕ → Typed ℕ
 typing switch s buffer = typingOf functionCount listingOf switch s buffer
 
--- the paper's number and place, the type, and the worksheet's length in bytes, 255 for both of what is refused: of a typing, whose lines
+-- the paper's number and place, the type, and the worksheet's length in bytes, neither of them in use for what is refused: of a typing, whose lines
 -- stand in the buffer, and of each case of the answer
 abbrev pub noType : List ℕ
-noType = 255 ∷ 255 ∷ []
+noType = paper.unused ∷ paper.unused ∷ []
 
 abbrev pub answerOf : Typed ℕ → Paper
 answerOf (typed t ls) = paper.accepted (t ∷ length (encode ls) ∷ [])

@@ -6,5 +6,6 @@ mod sheet;
 mod stack;
 mod typer;
 
+pub use sheet::ENOUGH_BYTES;
 pub use typer::TypeAnswer;
 pub use typer::type_expression;

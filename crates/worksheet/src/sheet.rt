@@ -7,11 +7,11 @@ ghost use mathlib.Core.Path.{_≡_};
 ghost use mathlib.Core.List.{[], _∷_};
 ghost use Prim.Native.Nat.{_+_, _≤_, _<_};
 ghost use lib.ListN.{length, take};
-ghost use Rattle.worksheet.specs.claims.Room.{enoughBytes};
+ghost use Rattle.worksheet.specs.private.Sheet.{enoughBytes};
 ghost use Rattle.worksheet.specs.private.Sheet.{Wrote, roomFor, placed};
 
-// So many bytes hold the worksheet of any expression within the limits: fewer than two lines for each of 64 nodes.
-const ENOUGH_BYTES: usize = 508;
+// So many bytes hold the worksheet of any expression within the limits: fewer than two lines for each of `MOST_NODES` nodes.
+pub const ENOUGH_BYTES: usize = 508;
 
 // The bytes written so far are the first `len`.
 pub(crate) struct Sheet {

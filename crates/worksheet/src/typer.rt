@@ -12,7 +12,6 @@ ghost use Rattle.worksheet.specs.private.SecondPass.{NodeThere, NodeType
 ghost use Rattle.worksheet.specs.Typing.{typing, answerOf, typePaper};
 use crate::one_call::type_call;
 use crate::progress::Progress;
-use crate::progress::Verdict;
 use crate::sheet::Room;
 use crate::sheet::Sheet;
 use crate::sheet::copy_out;
@@ -24,6 +23,7 @@ use functions::FUNCTION_COUNT;
 use machine::LEAF_LINE;
 use machine::SPARE;
 use scalars::Refusal;
+use scalars::Verdict;
 
 // The answer to an expression.
 pub enum TypeAnswer {
@@ -57,8 +57,8 @@ fn answer(root: Progress, out: &mut [u8]) -> TypeAnswer
 {
     let verdict = root.verdict;
     match verdict {
-        Verdict::Wrong(why) => TypeAnswer::Refused(why),
-        Verdict::Clean => {
+        Verdict::Refused(why) => TypeAnswer::Refused(why),
+        Verdict::Accepted => {
             let operands = root.stack;
             let result = operands.types[0];
             let lines = root.sheet;
@@ -87,7 +87,7 @@ fn type_node(bytes: &[u8], at: usize, switch: bool, stack: Stack, sheet: Sheet) 
         let pushed = stack.push(code, at);
         let lined = sheet.line(LEAF_LINE, code, SPARE, SPARE);
         return Progress {
-            verdict: Verdict::Clean,
+            verdict: Verdict::Accepted,
             at: at + 2,
             stack: pushed,
             sheet: lined,
@@ -97,8 +97,8 @@ fn type_node(bytes: &[u8], at: usize, switch: bool, stack: Stack, sheet: Sheet) 
     let inner = type_arguments(bytes, at + 3, count as usize, switch, stack, sheet);
     let verdict = inner.verdict;
     match verdict {
-        Verdict::Wrong(_) => inner,
-        Verdict::Clean => {
+        Verdict::Refused(_) => inner,
+        Verdict::Accepted => {
             let past = inner.at;
             let operands = inner.stack;
             let lines = inner.sheet;
@@ -121,7 +121,7 @@ fn type_arguments(
 {
     if left == 0 {
         return Progress {
-            verdict: Verdict::Clean,
+            verdict: Verdict::Accepted,
             at,
             stack,
             sheet,
@@ -130,8 +130,8 @@ fn type_arguments(
     let one = type_node(bytes, at, switch, stack, sheet);
     let verdict = one.verdict;
     match verdict {
-        Verdict::Wrong(_) => one,
-        Verdict::Clean => {
+        Verdict::Refused(_) => one,
+        Verdict::Accepted => {
             let next = one.at;
             let operands = one.stack;
             let lines = one.sheet;

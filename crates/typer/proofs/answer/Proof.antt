@@ -31,8 +31,9 @@ print-answer-requires-2 c κs = search needs
 
 print-sheet-requires : tie.Need-print-sheet-requires
 print-sheet-requires c κs =
-    let start = c .before .before .before .before .before .before .before .before .before .before .before .args in
-    let told = sym (ap typePaper (c .before .before .before .code .given .1)) ∙ c .before .before .before .before .before .before .before .type-expression .ensures .0 in
+    let there = c .before .before .before .before .before .before .before in
+    let start = there .before .before .before .before .args in
+    let told = sym (ap typePaper (c .before .before .before .code .given .1)) ∙ there .type-expression .ensures .0 in
     let fits = typed-fits (start .sheet .now) _ _ false (start .input .now) told in
     omega arith
 

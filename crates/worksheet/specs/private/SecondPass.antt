@@ -4,58 +4,36 @@ use mathlib.Core.Path.{_≡_}
 use mathlib.Core.Bool.{Bool}
 use mathlib.Core.List.{List, [], _∷_, _++_}
 use Prim.Native.Nat.{ℕ, _+_, _-_, _*_, _≤_, _<_}
-use lib.Dec.{eqb}
 use lib.ListN.{length, getD, drop}
-use Rattle.scalars.specs.Mask.{choose}
 use Rattle.scalars.specs.Paper as paper
 use Rattle.scalars.specs.Paper.{Paper}
-use Rattle.scalars.specs.Domain.{firstUnknown}
+use Rattle.scalars.specs.declared.answer.Verdict.the-variants.{Accepted}
 use Rattle.rules.specs.Rule.{argumentsOf}
 use Rattle.calls.specs.Choice.{resolve}
-use Rattle.functions.specs.Functions.{functionCount, listingOf}
+use Rattle.functions.specs.Functions.{listingOf}
 use Rattle.rules.specs.declared.rule.Rule.{Rule}
 use Rattle.worksheet.specs.declared.sheet.Sheet.{Sheet}
 use Rattle.worksheet.specs.declared.sheet.Room.{Room}
 use Rattle.worksheet.specs.declared.sheet.Room.the-variants.{Fits, Short}
 use Rattle.worksheet.specs.declared.stack.Stack.{Stack}
 use Rattle.worksheet.specs.declared.progress.Progress.{Progress}
-use Rattle.worksheet.specs.declared.progress.Verdict.{Verdict}
-use Rattle.worksheet.specs.declared.progress.Verdict.the-variants.{Clean, Wrong}
 use Rattle.expressions.specs.Tree.{Tree, Trees, count, bytesOf, bytesOfAll, nodes, nodesAll}
-use Rattle.expressions.specs.claims.Limits.{Known, KnownAll}
 use Rattle.machine.specs.Line.{Line, encode}
 use Rattle.machine.specs.Machine.{mostOperands}
-use Rattle.worksheet.specs.claims.Room.{enoughBytes}
+use Rattle.worksheet.specs.private.Sheet.{enoughBytes, Wrote, written, roomFor, placed}
 use Rattle.worksheet.specs.Places.{behind, starts}
 use Rattle.worksheet.specs.Typer.{Typed, typed, refused, conclude, typeOf, typeAll}
 use Rattle.worksheet.specs.Typing.{noType}
-use Rattle.worksheet.specs.private.Sheet.{Wrote, written, roomFor, placed}
 use Rattle.worksheet.specs.private.Stack.{typesOn, startsOn, Counted, Pushed}
-
--- a wrong count (5) stands at the call's tag, an operand that no rule takes (6) at its first byte, and an empty set (1) at the
--- call's tag again; the first operand's offset is at the index `from`
-abbrev pub placedAt : ℕ → ℕ → List ℕ → ℕ → ℕ → Paper
-placedAt at from offsets number place =
-    choose (eqb number 5) (paper.refusal 5 at [])
-    (choose (eqb number 6) (paper.refusal 6 (getD offsets (from + place - 1) 0) []) (paper.refusal 1 at []))
-
--- the operand that no rule takes is on the stack
-abbrev pub Within : ℕ → ℕ → ℕ → Type 0
-Within number place from = number ≡ 6 → (0 < place) × (from + place ≤ mostOperands)
 
 -- a rule with an argument for each operand, and room for a line for each
 pub record ConversionRoom (ts : List ℕ) (rule : Rule) (h : Sheet) : Type 0 where
   pub taken : length ts ≤ length (argumentsOf rule)
   pub room : h .len + 4 * length ts ≤ enoughBytes
 
--- what the pass has found so far: nothing, or a refusal
-abbrev pub foundPaper : Verdict → Paper
-foundPaper Clean = paper.accepted []
-foundPaper (Wrong why) = paper.refused why []
-
 -- operands of these types and starts, and these lines, behind those that were there
 pub record Went (at : ℕ) (ts ps : List ℕ) (ls : List Line) (s : Stack) (h : Sheet) (r : Progress) : Type 0 where
-  pub verdict-is : r .verdict ≡ Clean
+  pub verdict-is : r .verdict ≡ Accepted
   pub at-is : r .at ≡ at
   pub pushed : Pushed s ts ps (r .stack)
   pub wrote : Wrote h (encode ls) (r .sheet)
@@ -68,7 +46,7 @@ pub record CallThere (n : ℕ) (s : Stack) (h : Sheet) : Type 0 where
 
 -- the result takes the place of the operands, which stood on ts
 pub record Called (at past t : ℕ) (ts ps : List ℕ) (ls : List Line) (h : Sheet) (r : Progress) : Type 0 where
-  pub verdict-is : r .verdict ≡ Clean
+  pub verdict-is : r .verdict ≡ Accepted
   pub at-is : r .at ≡ past
   pub types-are : typesOn (r .stack) ≡ ts ++ (t ∷ [])
   pub starts-are : startsOn (r .stack) ≡ ps ++ (at ∷ [])
@@ -77,12 +55,12 @@ pub record Called (at past t : ℕ) (ts ps : List ℕ) (ls : List Line) (h : She
 
 abbrev pub CallClaim : ℕ → ℕ → List ℕ → List ℕ → Sheet → Progress → Typed ℕ → Type 0
 CallClaim at past ts ps h r (typed t ls) = Called at past t ts ps ls h r
-CallClaim at past ts ps h r (refused number place) = foundPaper (r .verdict) ≡ paper.refusal number place []
+CallClaim at past ts ps h r (refused number place) = paper.verdictPaper (r .verdict) ≡ paper.refusal number place []
 
 unfoldable pub CallTyped : ℕ → ℕ → ℕ → ℕ → Bool → Stack → Sheet → Progress → Type 0
 CallTyped f n at past switch s h r =
     (ts us ps qs : List ℕ) → typesOn s ≡ ts ++ us → startsOn s ≡ ps ++ qs → length us ≡ n → length qs ≡ n
-    → length ts + n ≡ s .top → length ps + n ≡ s .top → f < functionCount → length us ≤ firstUnknown us
+    → length ts + n ≡ s .top → length ps + n ≡ s .top
     → CallClaim at past ts ps h r (conclude f at qs us [] (resolve switch (listingOf f) us))
 
 -- a tree's bytes stand at the offset, and there is room for its operands and lines: fewer than twice as many lines as nodes
@@ -90,18 +68,17 @@ pub record NodeThere (b : List ℕ) (at : ℕ) (s : Stack) (h : Sheet) : Type 0 
   pub tree : Tree
   pub tail : List ℕ
   pub text : drop at b ≡ bytesOf tree ++ tail
-  pub known : Known functionCount tree
   pub full : Counted s
   pub stack-room : s .top + nodes tree ≤ mostOperands
   pub sheet-room : h .len + 8 * nodes tree ≤ enoughBytes + 4
 
 abbrev pub NodeClaim : Tree → ℕ → Stack → Sheet → Progress → Typed ℕ → Type 0
 NodeClaim e at s h r (typed t ls) = Went (behind e at) (t ∷ []) (at ∷ []) ls s h r
-NodeClaim e at s h r (refused number place) = foundPaper (r .verdict) ≡ paper.refusal number place []
+NodeClaim e at s h r (refused number place) = paper.verdictPaper (r .verdict) ≡ paper.refusal number place []
 
 unfoldable pub NodeTyped : List ℕ → ℕ → Bool → Stack → Sheet → Progress → Type 0
 NodeTyped b at switch s h r =
-    (e : Tree) (tail : List ℕ) → drop at b ≡ bytesOf e ++ tail → Known functionCount e
+    (e : Tree) (tail : List ℕ) → drop at b ≡ bytesOf e ++ tail
     → NodeClaim e at s h r (typeOf listingOf switch e at)
 
 -- so many trees' bytes stand there, and there is room besides for the line of their call
@@ -110,23 +87,22 @@ pub record ArgsThere (b : List ℕ) (at left : ℕ) (s : Stack) (h : Sheet) : Ty
   pub tail : List ℕ
   pub many : count trees ≡ left
   pub text : drop at b ≡ bytesOfAll trees ++ tail
-  pub known : KnownAll functionCount trees
   pub full : Counted s
   pub stack-room : s .top + nodesAll trees < mostOperands
   pub sheet-room : h .len + 8 * nodesAll trees + 4 ≤ enoughBytes
 
 abbrev pub ArgsClaim : Trees → ℕ → Stack → Sheet → Progress → Typed (List ℕ) → Type 0
 ArgsClaim es at s h r (typed ts ls) = Went (at + length (bytesOfAll es)) ts (starts es at) ls s h r
-ArgsClaim es at s h r (refused number place) = foundPaper (r .verdict) ≡ paper.refusal number place []
+ArgsClaim es at s h r (refused number place) = paper.verdictPaper (r .verdict) ≡ paper.refusal number place []
 
 unfoldable pub ArgsTyped : List ℕ → ℕ → ℕ → Bool → Stack → Sheet → Progress → Type 0
 ArgsTyped b at left switch s h r =
-    (es : Trees) (tail : List ℕ) → count es ≡ left → drop at b ≡ bytesOfAll es ++ tail → KnownAll functionCount es
+    (es : Trees) (tail : List ℕ) → count es ≡ left → drop at b ≡ bytesOfAll es ++ tail
     → ArgsClaim es at s h r (typeAll listingOf switch es at)
 
 -- the answer that the root's progress makes, and the buffer then
 abbrev pub SheetFits : Progress → Type 0
-SheetFits r = r .verdict ≡ Clean → r .sheet .len ≤ enoughBytes
+SheetFits r = r .verdict ≡ Accepted → r .sheet .len ≤ enoughBytes
 
 abbrev pub roomAnswer : ℕ → ℕ → Room → Paper
 roomAnswer t n Fits = paper.accepted (t ∷ n ∷ [])
@@ -134,7 +110,7 @@ roomAnswer t n (Short needed) = paper.refusal 10 needed noType
 
 abbrev pub rootAnswer : Progress → ℕ → Paper
 rootAnswer r have =
-    paper.whenAccepted (foundPaper (r .verdict))
+    paper.whenAccepted (paper.verdictPaper (r .verdict))
     (λ _. roomAnswer (getD (r .stack .types) 0 0) (r .sheet .len) (roomFor (r .sheet .len) have)) noType
 
 abbrev pub bufferBy : Paper → List ℕ → List ℕ → List ℕ
@@ -142,4 +118,4 @@ bufferBy (paper.accepted vs) bs buffer = placed bs buffer
 bufferBy (paper.refusal number place vs) bs buffer = buffer
 
 abbrev pub rootBuffer : Progress → List ℕ → List ℕ
-rootBuffer r buffer = bufferBy (foundPaper (r .verdict)) (written (r .sheet)) buffer
+rootBuffer r buffer = bufferBy (paper.verdictPaper (r .verdict)) (written (r .sheet)) buffer

@@ -9,6 +9,10 @@ use Rattle.worksheet.specs.declared.sheet.Sheet.{Sheet}
 use Rattle.worksheet.specs.declared.sheet.Room.{Room}
 use Rattle.worksheet.specs.declared.sheet.Room.the-variants.{Fits, Short}
 
+-- 'a 508-byte buffer, which always suffices': the size of the sheet
+abbrev pub enoughBytes : ℕ
+enoughBytes = 508
+
 -- the bytes written so far
 abbrev pub written : Sheet → List ℕ
 written h = take (h .len) (h .bytes)

@@ -26,8 +26,9 @@ mask-for-c-requires-2 c κs = search needs
 
 returns : tie.Need-returns
 returns c =
+    let asked = c .before .before .before .before .before .before in
     lent-refused _ _ (c .before .before .verdict .given .0 .0) _ (c .mask-for-c .ensures)
-    (ap (λ (v : Verdict). membersLeft (beside (verdictPaper v) (listValues (c .before .before .before .before .before .before .args .left .list))))
+    (ap (λ (v : Verdict). membersLeft (beside (verdictPaper v) (listValues (asked .args .left .list))))
     (c .before .before .verdict .given .1))
 
 same-length : tie.Need-same-length
@@ -35,10 +36,11 @@ same-length c = search needs
 
 returns-2 : tie.Need-returns-2
 returns-2 c =
+    let asked = c .before .before .before .before .before in
     lent-accepted _ _ _ _ (c .before .before .before .lend-mask .result) (c .mask-for-c2 .ensures)
     (c .before .before .before .lend-mask .ensures .0) (c .before .before .before .lend-mask .ensures .1)
-    (ap (λ (v : Verdict). membersLeft (beside (verdictPaper v) (listValues (c .before .before .before .before .before .before .before .before .before .args .left .list))))
-    (c .before .before .before .before .before .enum-told .given .1))
+    (ap (λ (v : Verdict). membersLeft (beside (verdictPaper v) (listValues (asked .before .before .before .before .args .left .list))))
+    (asked .enum-told .given .1))
 
 pub lend-members-spec : {M : Type 1} → statement M
 lend-members-spec =

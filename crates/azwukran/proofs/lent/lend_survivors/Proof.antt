@@ -29,9 +29,10 @@ same-length c = search needs
 
 returns-2 : tie.Need-returns-2
 returns-2 c =
+    let asked = c .before .before .before .before .before .before in
     lent-accepted _ _ _ _ (c .before .before .before .lend-mask .result) (c .mask-for-c2 .ensures)
     (c .before .before .before .lend-mask .ensures .0) (c .before .before .before .lend-mask .ensures .1)
-    (ap survivorsPaper (c .before .before .before .before .before .before .survivors2 .given .1))
+    (ap survivorsPaper (asked .survivors2 .given .1))
 
 pub lend-survivors-spec : {M : Type 1} → statement M
 lend-survivors-spec =

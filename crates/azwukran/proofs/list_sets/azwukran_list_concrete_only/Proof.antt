@@ -1,5 +1,5 @@
 -- `azwukran_list_concrete_only` meets its contract: the members that `list_concrete_only` answers are lent over as many rules as were handed in. Assumes nothing.
-use mathlib.Core.Path.{refl, ap}
+use mathlib.Core.Path.{ap}
 use Rattle.azwukran.specs.Lent.{membersLeft}
 use Rattle.azwukran.proofs.LentMasks.{lent-as}
 use borrow.Author.Needs.{needs}
@@ -9,6 +9,9 @@ use Rattle.azwukran.proofs.list_sets.azwukran_list_concrete_only.Tie as
 list-concrete-only-requires : tie.Need-list-concrete-only-requires
 list-concrete-only-requires c κs = search needs
 
+handed-requires : tie.Need-handed-requires
+handed-requires c κs = search needs
+
 lend-members-requires : tie.Need-lend-members-requires
 lend-members-requires c κs = search needs
 
@@ -16,8 +19,10 @@ same-length : tie.Need-same-length
 same-length c = search needs
 
 returns : tie.Need-returns
-returns c = lent-as _ _ refl (ap membersLeft (c .before .before .before .before .list-concrete-only .ensures)) (c .before .before .lend-members .ensures)
+returns c =
+    let there = c .before .before .before .before .before in
+    lent-as _ _ (c .before .before .before .before .handed .ensures) (ap membersLeft (there .list-concrete-only .ensures)) (c .before .before .lend-members .ensures)
 
 pub azwukran-list-concrete-only-spec : {M : Type 1} → statement M
 azwukran-list-concrete-only-spec =
-    tie.close (tie.spec list-concrete-only-requires lend-members-requires same-length returns)
+    tie.close (tie.spec list-concrete-only-requires handed-requires lend-members-requires same-length returns)

@@ -17,7 +17,9 @@ same-length : tie.Need-same-length
 same-length c = search needs
 
 returns : tie.Need-returns
-returns c = lent-as _ _ (c .before .before .before .before .rules-of .ensures) (c .before .before .before .before .before .survivors-of .ensures) (c .before .before .lend-survivors .ensures)
+returns c =
+    let there = c .before .before .before .before .before in
+    lent-as _ _ (c .before .before .before .before .rules-of .ensures) (there .survivors-of .ensures) (c .before .before .lend-survivors .ensures)
 
 pub azwukran-survivors-spec : {M : Type 1} → statement M
 azwukran-survivors-spec =

@@ -28,21 +28,23 @@ same-length c = search needs
 
 returns : tie.Need-returns
 unfolding typeForC
-returns c = (
-  of-refused typeForC typePaper noType refl (c .before .number .ensures) (c .place .ensures) refl (c .before .before .before .why .given .1)
-      ∙ ap typeForC (c .before .before .before .before .before .before .before .type-expression .ensures .0),
-  c .before .before .before .before .before .before .before .type-expression .ensures .1,
-)
+returns c =
+    let there = c .before .before .before .before .before .before .before in (
+      of-refused typeForC typePaper noType refl (c .before .number .ensures) (c .place .ensures) refl (c .before .before .before .why .given .1)
+          ∙ ap typeForC (there .type-expression .ensures .0),
+      there .type-expression .ensures .1,
+    )
 
 same-length-2 : tie.Need-same-length-2
 same-length-2 c = search needs
 
 returns-2 : tie.Need-returns-2
 unfolding typeForC
-returns-2 c = (
-  of-known typeForC typePaper refl (c .before .code .given .1) ∙ ap typeForC (c .before .before .before .before .before .type-expression .ensures .0),
-  c .before .before .before .before .before .type-expression .ensures .1,
-)
+returns-2 c =
+    let there = c .before .before .before .before .before in (
+      of-known typeForC typePaper refl (c .before .code .given .1) ∙ ap typeForC (there .type-expression .ensures .0),
+      there .type-expression .ensures .1,
+    )
 
 pub azwukran-type-spec : {M : Type 1} → statement M
 azwukran-type-spec =

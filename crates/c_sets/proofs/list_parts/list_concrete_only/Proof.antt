@@ -21,7 +21,9 @@ concrete-only-requires : tie.Need-concrete-only-requires
 concrete-only-requires c κs = search needs
 
 returns : tie.Need-returns
-returns c = c .no-list .ensures ∙ asked-refused _ _ (c .before .before .before .before .before .list-in .result) _ _ (c .before .before .before .before .before .list-in .ensures) (c .before .before .verdict .given .1)
+returns c =
+    let there = c .before .before .before .before .before in
+    c .no-list .ensures ∙ asked-refused _ _ (there .list-in .result) _ _ (there .list-in .ensures) (c .before .before .verdict .given .1)
 
 returns-2 : tie.Need-returns-2
 returns-2 c = asked-accepted _ _ (c .before .before .before .before .list-in .result) _ _ (c .before .before .before .before .list-in .ensures) (c .before .enum-told .given .1) (c .concrete-only .ensures)

@@ -38,14 +38,16 @@ rules-in-requires c κs = search needs
 
 returns-2 : tie.Need-returns-2
 returns-2 c =
+    let there = c .before .before .before .before .before in
     c .no-list2 .ensures
-    ∙ by-mask _ _ (eq-eqb _ _ (c .before .before .before .before .before .if1 .left))
+    ∙ by-mask _ _ (eq-eqb _ _ (there .if1 .left))
     (sym (ap maskPaper (c .before .before .why .given .1)) ∙ c .before .before .before .before .mask-in .ensures)
 
 returns-3 : tie.Need-returns-3
 unfolding acceptedList
 returns-3 c =
-    let start = c .before .before .before .before .before .before .before .before .args in
+    let there = c .before .before .before .before .before in
+    let start = there .before .before .before .args in
     ap
     (λ (rs : L.List Rule). acceptedList (record {
       rules = rs;
@@ -53,7 +55,7 @@ returns-3 c =
       members = c .before .before .mask .given .0 .0;
     }))
     (c .rules-in .ensures)
-    ∙ by-mask _ _ (eq-eqb _ _ (c .before .before .before .before .before .if1 .left))
+    ∙ by-mask _ _ (eq-eqb _ _ (there .if1 .left))
     (sym (ap maskPaper (c .before .before .mask .given .1)) ∙ c .before .before .before .before .mask-in .ensures)
 
 pub list-in-spec : {M : Type 1} → statement M

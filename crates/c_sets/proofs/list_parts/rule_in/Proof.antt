@@ -53,7 +53,9 @@ shared-slice-read-t21 c = search needs
 
 returns-2 : tie.Need-returns-2
 unfolding byteRule
-returns-2 c = simp (le-leb _ _ (c .before .before .before .before .before .before .if1 .left), getD-drop, add-zero)
+returns-2 c =
+    let asked = c .before .before .before .before .before .before in
+    simp (le-leb _ _ (asked .if1 .left), getD-drop, add-zero)
 
 pub rule-in-spec : {M : Type 1} → statement M
 rule-in-spec =

@@ -43,7 +43,7 @@ unfolding conclusionOf
 returns-9 c = rw (c .match .keys9)
 
 returns-10 : tie.Need-returns-10
-returns-10 c = last-conclusion _ (none-of 0 9 (c .match .rest) (omega arith))
+returns-10 c = last-conclusion _ (none-of _ 0 9 (c .match .rest) (omega arith))
 
 pub conclusion-of-spec : {M : Type 1} → statement M
 conclusion-of-spec =

@@ -25,7 +25,8 @@ enum-told c = search needs
 returns-2 : tie.Need-returns-2
 unfolding checkedRegular
 returns-2 c =
-    asked-regular _ _ _ _ _ _ (c .before .before .before .before .before .if1 .left) (c .before .before .before .before .regular-in .ensures)
+    let there = c .before .before .before .before .before in
+    asked-regular _ _ _ _ _ _ (there .if1 .left) (c .before .before .before .before .regular-in .ensures)
     (rw (sym (c .before .before .before .verdict .ensures) ∙ ap verdictPaper (c .before .why .given .1)))
 
 returns-3 : tie.Need-returns-3

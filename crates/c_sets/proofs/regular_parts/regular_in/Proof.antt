@@ -13,8 +13,8 @@ returns c =
     ap
     (λ (k : ConclusionRule). record {
       arity = c .before .args .arity;
-      constructors = record { 0 = c .before .args .constructors };
-      scalars = record { 0 = c .before .args .scalars };
+      constructors = c .before .args .constructors;
+      scalars = c .before .args .scalars;
       conclude = k;
     })
     (c .conclusion-of .ensures)

@@ -16,10 +16,10 @@ shl-result : tie.Need-shl-result
 shl-result c = search needs
 
 rem-result : tie.Need-rem-result
-rem-result c = subst⁻¹ (λ (b : ℕ). 0 < b) (bit-is 16 (c .args .k) (c .pre)) (pow-pos (c .args .k))
+rem-result c = let start = c .before .before in subst⁻¹ (λ (b : ℕ). 0 < b) (bit-is 64 (start .args .number .0) (start .pre)) (pow-pos (start .args .number .0))
 
 returns : tie.Need-returns
-returns c = rank-ones 16 _ _ (c .pre)
+returns c = rank-ones 64 _ _ (c .before .before .pre)
 
 pub below-spec : {M : Type 1} → statement M
 below-spec = tie.close (tie.spec cast-result shl-result rem-result returns)

@@ -45,11 +45,10 @@ narrow-requires c κs = tt
 holds-none-requires : tie.Need-holds-none-requires Inv-loop μ-loop
 holds-none-requires c κs = tt
 
-add-t15 : tie.Need-add-t15 Inv-loop μ-loop
-add-t15 c = omega arith
-
 returns-2 : tie.Need-returns-2 Inv-loop μ-loop
-returns-2 c = reached-out _ (c .before .before .before .before .before .before .before .before .before .pre) _ (c .before .before .before .before .before .before .if1 .left) _ _ (c .before .before .before .before .before .loop .inv) _ (c .before .before .before .before .loop-test .taken) (ap emptySet? (sym (narrowed-is (c .before .before))) ∙ sym (c .before .holds-none .ensures) ∙ c .if2 .taken)
+returns-2 c =
+    let there = c .before .before .before .before .before in
+    reached-out _ (there .before .before .before .before .pre) _ (there .before .if1 .left) _ _ (there .loop .inv) _ (c .before .before .before .before .loop-test .taken) (ap emptySet? (sym (narrowed-is (c .before .before))) ∙ sym (c .before .holds-none .ensures) ∙ c .if2 .taken)
 
 add-i : tie.Need-add-i Inv-loop μ-loop
 add-i c = omega arith
@@ -58,24 +57,34 @@ loop-less : tie.Need-loop-less Inv-loop μ-loop
 loop-less c = omega arith
 
 loop-again : tie.Need-loop-again Inv-loop μ-loop
-loop-again c = subst (λ (x : Regular). Reached (c .before .before .before .before .before .before .before .before .before .args .set) (c .before .before .before .before .before .before .before .before .before .args .operands .now) x (c .before .before .before .before .before .loop .i + 1)) (sym (narrowed-is (c .before .before)))
-    (reached-on _ (c .before .before .before .before .before .before .before .before .before .pre) _ (c .before .before .before .before .before .before .if1 .left) _ _ (c .before .before .before .before .before .loop .inv) (c .before .before .before .before .loop-test .taken) (ap emptySet? (sym (narrowed-is (c .before .before))) ∙ sym (c .before .holds-none .ensures) ∙ c .if2 .left))
+loop-again c =
+    let there = c .before .before .before .before .before in
+    subst (λ (x : Regular). Reached (there .before .before .before .before .args .set) (there .before .before .before .before .args .operands .now) x (there .loop .i + 1)) (sym (narrowed-is (c .before .before)))
+    (reached-on _ (there .before .before .before .before .pre) _ (there .before .if1 .left) _ _ (there .loop .inv) (c .before .before .before .before .loop-test .taken) (ap emptySet? (sym (narrowed-is (c .before .before))) ∙ sym (c .before .holds-none .ensures) ∙ c .if2 .left))
 
 concrete-requires : tie.Need-concrete-requires Inv-loop μ-loop
 concrete-requires c κs = tt
 
 preferred-requires : tie.Need-preferred-requires Inv-loop μ-loop
-preferred-requires c κs = (c .before .before .before .before .before .before .before .pre .known, subst Known (sym (concrete-is c)) (concrete-left _ (c .before .before .before .before .before .before .before .pre) _ (c .before .before .before .before .if1 .left) _ _ (c .before .before .before .loop .inv) (c .before .before .loop-test .left)))
+preferred-requires c κs =
+    let there = c .before .before .before .before .before .before .before in
+    (there .pre .known, subst Known (sym (concrete-is c)) (concrete-left _ (there .pre) _ (c .before .before .before .before .if1 .left) _ _ (c .before .before .before .loop .inv) (c .before .before .loop-test .left)))
 
 returns-3 : tie.Need-returns-3 Inv-loop μ-loop
-returns-3 c = c .preferred .ensures ∙ ap (λ (x : Regular). preferredIn (c .before .before .before .before .before .before .before .before .args .set) (bits 13 (x .constructors .0)) (bits 12 (x .scalars .0))) (concrete-is (c .before))
-    ∙ reached-concrete _ (c .before .before .before .before .before .before .before .before .pre) _ (c .before .before .before .before .before .if1 .left) _ _ (c .before .before .before .before .loop .inv) (c .before .before .before .loop-test .left) _ (c .before .before .if3 .taken)
+returns-3 c =
+    let there = c .before .before .before .before .before in
+    c .preferred .ensures ∙ ap (λ (x : Regular). preferredIn (there .before .before .before .args .set) (bits 13 (x .constructors .0)) (bits 12 (x .scalars .0))) (concrete-is (c .before))
+    ∙ reached-concrete _ (there .before .before .before .pre) _ (there .if1 .left) _ _ (c .before .before .before .before .loop .inv) (c .before .before .before .loop-test .left) _ (c .before .before .if3 .taken)
 
 preferred-requires-2 : tie.Need-preferred-requires-2 Inv-loop μ-loop
-preferred-requires-2 c κs = (c .before .before .before .before .before .before .pre .known, c .before .before .loop .inv .1)
+preferred-requires-2 c κs =
+    let there = c .before .before .before .before .before .before in
+    (there .pre .known, c .before .before .loop .inv .1)
 
 returns-4 : tie.Need-returns-4 Inv-loop μ-loop
-returns-4 c = c .preferred2 .ensures ∙ reached-end _ (c .before .before .before .before .before .before .before .pre) _ (c .before .before .before .before .if1 .left) _ _ (c .before .before .before .loop .inv) (c .before .before .loop-test .left) _ (c .before .if3 .left)
+returns-4 c =
+    let there = c .before .before .before .before .before .before .before in
+    c .preferred2 .ensures ∙ reached-end _ (there .pre) _ (c .before .before .before .before .if1 .left) _ _ (c .before .before .before .loop .inv) (c .before .before .loop-test .left) _ (c .before .if3 .left)
 
 pub call-regular-spec : {M : Type 1} → statement M
 call-regular-spec =
@@ -89,7 +98,6 @@ call-regular-spec =
     shared-slice-read-narrow
     narrow-requires
     holds-none-requires
-    add-t15
     returns-2
     add-i
     loop-less

@@ -1,7 +1,7 @@
 -- `members` meets its contract.
 -- Assumes nothing.
 use borrow.Author.Tests.{eq-eqb, ne-eqb}
-use Rattle.calls.specs.private.CallSets.{maskAnswer}
+use Rattle.calls.specs.private.Steps.{maskAnswer}
 use Rattle.calls.proofs.call.members.Statement.{statement}
 use Rattle.calls.proofs.call.members.Tie as tie
 

@@ -1,78 +1,55 @@
--- `call_of` meets its contract: each function's set is one that can be asked, and its rules are the listing.
+-- `call_of` meets its contract: the test first, then what the call comes to, as a call by itself answers it.
 -- Assumes nothing.
 use mathlib.Core.Path.{sym, ap, _∙_}
-use mathlib.Core.List.{List}
-use borrow.Author.Tests.{lt-ltb, le-ltb}
-use Rattle.rules.specs.Signature.{Signature}
-use Rattle.calls.specs.Choice.{resolve}
-use Rattle.calls.specs.Call.{callOf, answered}
-use Rattle.functions.proofs.FunctionPapers.{set-told}
-use Rattle.calls.proofs.FunctionCalls.{callable, regular-listing, full, list-listing, never-unknown}
+use native.Mathlib.Omega.{arith}
+use Rattle.scalars.specs.Paper.{verdictPaper}
+use Rattle.lists.specs.ChosenPaper.{noChoice}
+use Rattle.calls.specs.Call.{callOf}
+use Rattle.calls.proofs.CallTests.{test-refused, test-passed}
+use Rattle.calls.proofs.OutcomePapers.{outcome-placed}
 use borrow.Author.Needs.{needs}
 use Rattle.calls.proofs.function_call.call_of.Statement.{statement}
 use Rattle.calls.proofs.function_call.call_of.Tie as tie
 
-returns : tie.Need-returns
-unfolding callOf
-returns c = simp (le-ltb _ _ (c .if1 .taken))
+known-requires : tie.Need-known-requires
+known-requires c κs = search needs
 
-first-unknown-requires : tie.Need-first-unknown-requires
-first-unknown-requires c κs = search needs
-
-add-t10 : tie.Need-add-t10
-add-t10 c = search needs
-
-returns-2 : tie.Need-returns-2
-unfolding callOf
-returns-2 c = simp (lt-ltb _ _ (c .before .before .if1 .left), ← c .before .first-unknown .ensures, lt-ltb _ _ (c .if2 .taken))
-
-function-set-requires : tie.Need-function-set-requires
-function-set-requires c κs = search needs
+enum-known-why : tie.Need-enum-known-why
+enum-known-why c = search needs
 
 enum-told : tie.Need-enum-told
 enum-told c = search needs
 
-enum-known-regular : tie.Need-enum-known-regular
-enum-known-regular c = search needs
+outcome-of-requires : tie.Need-outcome-of-requires
+outcome-of-requires c κs = search needs
 
-call-regular-requires : tie.Need-call-regular-requires
-call-regular-requires c κs = callable (c .before .before .before .before .before .before .before .before .args .function) _ (set-told _ _ (c .before .before .before .function-set .ensures) (c .before .regular .given .1))
+single-requires : tie.Need-single-requires
+single-requires c κs =
+    let there = c .before .before .before .before .before in
+    let start = there .args in
+    outcome-placed (start .switch) _ (start .operands .now) (c .outcome-of .result) (c .outcome-of .ensures) (omega arith)
 
-enum-known-listed : tie.Need-enum-known-listed
-enum-known-listed c = search needs
-
-list-of-requires : tie.Need-list-of-requires
-list-of-requires c κs = search needs
-
-call-list-requires : tie.Need-call-list-requires
-call-list-requires c κs = full _ _ (c .list-of .ensures)
-
-returns-3 : tie.Need-returns-3
-returns-3 c = absurd (never-unknown (c .before .before .before .before .before .before .before .args .function) (c .before .before .before .before .before .if1 .left) (set-told _ _ (c .before .before .function-set .ensures) (c .enum-told .given .1)))
-
-returns-4 : tie.Need-returns-4
+returns : tie.Need-returns
 unfolding callOf
-returns-4 c = simp (lt-ltb _ _ (c .before .before .before .before .before .before .before .if1 .left), ← c .before .before .before .before .before .before .first-unknown .ensures, le-ltb _ _ (c .before .before .before .before .before .if2 .left)) (c .call-regular .ensures ∙ ap (λ (rs : List Signature). answered (resolve (c .before .before .before .before .before .before .before .before .before .args .switch) rs (c .before .before .before .before .before .before .before .before .before .args .operands .now))) (sym (regular-listing (c .before .before .before .before .before .before .before .before .before .args .function) _ (set-told _ _ (c .before .before .before .before .function-set .ensures) (c .before .before .regular .given .1)))))
+returns c =
+    let there = c .before .before .before .before .before in
+    test-refused (there .args .function) _ noChoice _ (c .before .why .given .0 .0) (sym (c .before .before .before .known .ensures) ∙ ap verdictPaper (c .before .why .given .1))
 
-returns-5 : tie.Need-returns-5
+returns-2 : tie.Need-returns-2
 unfolding callOf
-returns-5 c = simp (lt-ltb _ _ (c .before .before .before .before .before .before .before .before .if1 .left), ← c .before .before .before .before .before .before .before .first-unknown .ensures, le-ltb _ _ (c .before .before .before .before .before .before .if2 .left)) (c .call-list .ensures ∙ ap (λ (rs : List Signature). answered (resolve (c .before .before .before .before .before .before .before .before .before .before .args .switch) rs (c .before .before .before .before .before .before .before .before .before .before .args .operands .now))) (list-listing (c .before .before .before .before .before .before .before .before .before .before .args .function) _ _ (set-told _ _ (c .before .before .before .before .before .function-set .ensures) (c .before .before .before .listed .given .1)) (c .before .list-of .ensures)))
+returns-2 c =
+    let there = c .before .before .before .before .before .before in
+    c .single .ensures ∙ c .before .outcome-of .ensures
+    ∙ test-passed (there .args .function) _ noChoice _ (sym (c .before .before .before .before .known .ensures) ∙ ap verdictPaper (c .before .before .enum-told .given .1))
 
 pub call-of-spec : {M : Type 1} → statement M
 call-of-spec =
     tie.close
     (tie.spec
-    returns
-    first-unknown-requires
-    add-t10
-    returns-2
-    function-set-requires
+    known-requires
+    enum-known-why
     enum-told
-    enum-known-regular
-    call-regular-requires
-    enum-known-listed
-    list-of-requires
-    call-list-requires
-    returns-3
-    returns-4
-    returns-5)
+    outcome-of-requires
+    single-requires
+    returns
+    returns-2)

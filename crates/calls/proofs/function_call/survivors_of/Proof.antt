@@ -1,77 +1,67 @@
--- `survivors_of` meets its contract: each function's set is one that can be asked, and its rules are the listing.
+-- `survivors_of` meets its contract: the test first, then what the steps leave of the List of the function's rules.
 -- Assumes nothing.
-use mathlib.Core.Path.{sym, ap, _∙_}
-use mathlib.Core.List.{List}
-use borrow.Author.Tests.{lt-ltb, le-ltb}
+use mathlib.Core.Path.{sym, ap, _∙_, subst}
+use mathlib.Core.List as L
+use mathlib.Core.List.{[], _∷_}
+use native.Mathlib.Omega.{arith}
+use Rattle.scalars.specs.Paper.{verdictPaper}
 use Rattle.rules.specs.Signature.{Signature}
-use Rattle.calls.specs.Call.{survivorsOfCall, survivorsOf}
-use Rattle.functions.proofs.FunctionPapers.{set-told}
-use Rattle.calls.proofs.FunctionCalls.{callable, regular-listing, regular-few, full, list-listing, never-unknown}
+use Rattle.lists.specs.List.{signatures}
+use Rattle.calls.specs.Call.{survivorsOf, survivorsOfCall}
+use Rattle.calls.specs.private.CallSets.{Full}
+use Rattle.calls.proofs.FunctionCalls.{listed-of, full-of}
+use Rattle.calls.proofs.ListCalls.{placed-of}
+use Rattle.calls.proofs.CallTests.{test-refused, test-passed}
 use borrow.Author.Needs.{needs}
 use Rattle.calls.proofs.function_call.survivors_of.Statement.{statement}
 use Rattle.calls.proofs.function_call.survivors_of.Tie as tie
 
-returns : tie.Need-returns
-unfolding survivorsOfCall
-returns c = simp (le-ltb _ _ (c .if1 .taken))
+known-requires : tie.Need-known-requires
+known-requires c κs = search needs
 
-first-unknown-requires : tie.Need-first-unknown-requires
-first-unknown-requires c κs = search needs
-
-add-t10 : tie.Need-add-t10
-add-t10 c = search needs
-
-returns-2 : tie.Need-returns-2
-unfolding survivorsOfCall
-returns-2 c = simp (lt-ltb _ _ (c .before .before .if1 .left), ← c .before .first-unknown .ensures, lt-ltb _ _ (c .if2 .taken))
-
-function-set-requires : tie.Need-function-set-requires
-function-set-requires c κs = search needs
+enum-known-why : tie.Need-enum-known-why
+enum-known-why c = search needs
 
 enum-told : tie.Need-enum-told
 enum-told c = search needs
 
-enum-known-regular : tie.Need-enum-known-regular
-enum-known-regular c = search needs
+rules-of-requires : tie.Need-rules-of-requires
+rules-of-requires c κs = search needs
 
-survivors-regular-requires : tie.Need-survivors-regular-requires
-survivors-regular-requires c κs = (callable (c .before .before .before .before .before .before .before .before .args .function) _ (set-told _ _ (c .before .before .before .function-set .ensures) (c .before .regular .given .1)), regular-few (c .before .before .before .before .before .before .before .before .args .function) _ (set-told _ _ (c .before .before .before .function-set .ensures) (c .before .regular .given .1)))
+stepped-requires : tie.Need-stepped-requires
+stepped-requires c κs =
+    let there = c .before .before .before .before .before in
+    subst Full (sym (c .rules-of .ensures)) (full-of (there .args .function))
 
-enum-known-listed : tie.Need-enum-known-listed
-enum-known-listed c = search needs
+surviving-requires : tie.Need-surviving-requires
+surviving-requires c κs =
+    let there = c .before .before .before .before .before .before in
+    placed-of (c .before .rules-of .result) (there .args .operands .now) (c .stepped .result) (c .stepped .ensures .bounded) (omega arith)
 
-list-of-requires : tie.Need-list-of-requires
-list-of-requires c κs = search needs
-
-survivors-list-requires : tie.Need-survivors-list-requires
-survivors-list-requires c κs = full _ _ (c .list-of .ensures)
-
-returns-3 : tie.Need-returns-3
-returns-3 c = absurd (never-unknown (c .before .before .before .before .before .before .before .args .function) (c .before .before .before .before .before .if1 .left) (set-told _ _ (c .before .before .function-set .ensures) (c .enum-told .given .1)))
-
-returns-4 : tie.Need-returns-4
+returns : tie.Need-returns
 unfolding survivorsOfCall
-returns-4 c = simp (lt-ltb _ _ (c .before .before .before .before .before .before .before .if1 .left), ← c .before .before .before .before .before .before .first-unknown .ensures, le-ltb _ _ (c .before .before .before .before .before .if2 .left)) (c .survivors-regular .ensures ∙ ap (λ (rs : List Signature). survivorsOf (c .before .before .before .before .before .before .before .before .before .args .switch) rs (c .before .before .before .before .before .before .before .before .before .args .operands .now)) (sym (regular-listing (c .before .before .before .before .before .before .before .before .before .args .function) _ (set-told _ _ (c .before .before .before .before .function-set .ensures) (c .before .before .regular .given .1)))))
+returns c =
+    let there = c .before .before .before .before .before in
+    test-refused (there .args .function) _ (0 ∷ []) _ (c .before .why .given .0 .0) (sym (c .before .before .before .known .ensures) ∙ ap verdictPaper (c .before .why .given .1))
 
-returns-5 : tie.Need-returns-5
+returns-2 : tie.Need-returns-2
 unfolding survivorsOfCall
-returns-5 c = simp (lt-ltb _ _ (c .before .before .before .before .before .before .before .before .if1 .left), ← c .before .before .before .before .before .before .before .first-unknown .ensures, le-ltb _ _ (c .before .before .before .before .before .before .if2 .left)) (c .survivors-list .ensures ∙ ap (λ (rs : List Signature). survivorsOf (c .before .before .before .before .before .before .before .before .before .before .args .switch) rs (c .before .before .before .before .before .before .before .before .before .before .args .operands .now)) (list-listing (c .before .before .before .before .before .before .before .before .before .before .args .function) _ _ (set-told _ _ (c .before .before .before .before .before .function-set .ensures) (c .before .before .before .listed .given .1)) (c .before .list-of .ensures)))
+returns-2 c =
+    let there = c .before .before .before .before .before in
+    let start = there .before .before .args in
+    c .surviving .ensures ∙ c .before .stepped .ensures .survivors
+    ∙ ap (λ (rs : L.List Signature). survivorsOf (start .switch) rs (start .operands .now)) (ap signatures (c .before .before .rules-of .ensures) ∙ listed-of (start .function))
+    ∙ test-passed (start .function) _ (0 ∷ []) _ (sym (there .known .ensures) ∙ ap verdictPaper (c .before .before .before .enum-told .given .1))
 
 pub survivors-of-spec : {M : Type 1} → statement M
 survivors-of-spec =
     tie.close
     (tie.spec
-    returns
-    first-unknown-requires
-    add-t10
-    returns-2
-    function-set-requires
+    known-requires
+    enum-known-why
     enum-told
-    enum-known-regular
-    survivors-regular-requires
-    enum-known-listed
-    list-of-requires
-    survivors-list-requires
-    returns-3
-    returns-4
-    returns-5)
+    rules-of-requires
+    stepped-requires
+    surviving-requires
+    returns
+    returns-2)

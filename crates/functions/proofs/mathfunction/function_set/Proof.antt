@@ -1,117 +1,60 @@
--- `function_set` meets its contract: each arm stands for the functions, from a number on, that have its set. Assumes nothing.
-use mathlib.Core.Path.{refl, sym, ap, _∙_}
+-- `function_set` meets its contract: each arm's set is that of its functions. First come the arms of single numbers, then those of ranges,
+-- then all other numbers; a range behind single numbers is told that it is none of them. Assumes nothing.
+use mathlib.Core.Path.{refl, sym, ap}
+use mathlib.Core.Logic.{⊎-elim, inl, inr}
 use native.Mathlib.Omega.{arith}
 use Rattle.functions.specs.FunctionPaper.{functionPaper}
 use Rattle.functions.specs.Functions.{functionSets}
-use Rattle.functions.proofs.Database.{sets-from, set-of}
-use borrow.Author.Needs.{needs}
+use Rattle.functions.proofs.Database.{set-at, sets-from, no-function}
+use Rattle.functions.proofs.Runs.{past, none-of, others}
 use Rattle.functions.proofs.mathfunction.function_set.Statement.{statement}
 use Rattle.functions.proofs.mathfunction.function_set.Tie as tie
 
-component-wise-requires : tie.Need-component-wise-requires
-component-wise-requires c κs = search needs
-
-component-wise-requires-2 : tie.Need-component-wise-requires-2
-component-wise-requires-2 c κs = search needs
-
-component-wise-requires-3 : tie.Need-component-wise-requires-3
-component-wise-requires-3 c κs = search needs
-
-component-wise-requires-4 : tie.Need-component-wise-requires-4
-component-wise-requires-4 c κs = search needs
-
-component-wise-requires-5 : tie.Need-component-wise-requires-5
-component-wise-requires-5 c κs = search needs
-
-component-wise-requires-6 : tie.Need-component-wise-requires-6
-component-wise-requires-6 c κs = search needs
-
-component-wise-requires-7 : tie.Need-component-wise-requires-7
-component-wise-requires-7 c κs = search needs
-
-packing-requires : tie.Need-packing-requires
-packing-requires c κs = search needs
-
-unpacking-requires : tie.Need-unpacking-requires
-unpacking-requires c κs = search needs
-
-one-off-requires : tie.Need-one-off-requires
-one-off-requires c κs = search needs
-
-geometric-requires : tie.Need-geometric-requires
-geometric-requires c κs = search needs
-
-remaining-requires : tie.Need-remaining-requires
-remaining-requires c κs = search needs
-
-returns : tie.Need-returns
-unfolding functionSets
-returns c = ap functionPaper (c .component-wise .ensures ∙ sym (sets-from 4 1 refl (omega arith) (omega arith))) ∙ set-of _
-
-returns-2 : tie.Need-returns-2
-unfolding functionSets
-returns-2 c = ap functionPaper (c .component-wise2 .ensures ∙ sym (sets-from 0 2 refl (omega arith) (omega arith))) ∙ set-of _
-
-returns-3 : tie.Need-returns-3
-unfolding functionSets
-returns-3 c = ap functionPaper (c .component-wise3 .ensures ∙ sym (sets-from 2 2 refl (omega arith) (omega arith))) ∙ set-of _
-
-returns-4 : tie.Need-returns-4
-unfolding functionSets
-returns-4 c = ap functionPaper (c .component-wise4 .ensures ∙ sym (sets-from 5 26 refl (omega arith) (omega arith))) ∙ set-of _
-
-returns-5 : tie.Need-returns-5
-unfolding functionSets
-returns-5 c = ap functionPaper (c .component-wise5 .ensures ∙ sym (sets-from 31 3 refl (omega arith) (omega arith))) ∙ set-of _
-
-returns-6 : tie.Need-returns-6
-unfolding functionSets
-returns-6 c = ap functionPaper (c .component-wise6 .ensures ∙ sym (sets-from 34 2 refl (omega arith) (omega arith))) ∙ set-of _
-
-returns-7 : tie.Need-returns-7
-unfolding functionSets
-returns-7 c = ap functionPaper (c .component-wise7 .ensures ∙ sym (sets-from 36 6 refl (omega arith) (omega arith))) ∙ set-of _
-
-returns-8 : tie.Need-returns-8
-returns-8 c = ap functionPaper (c .packing .ensures) ∙ set-of _
-
-returns-9 : tie.Need-returns-9
-returns-9 c = ap functionPaper (c .unpacking .ensures) ∙ set-of _
-
-returns-10 : tie.Need-returns-10
-returns-10 c = ap functionPaper (c .one-off .ensures) ∙ set-of _
-
-returns-11 : tie.Need-returns-11
-returns-11 c = ap functionPaper (c .geometric .ensures) ∙ set-of _
-
-returns-12 : tie.Need-returns-12
-returns-12 c = ap functionPaper (c .remaining .ensures) ∙ set-of _
-
 pub function-set-spec : {M : Type 1} → statement M
+unfolding functionSets
 function-set-spec =
     tie.close
     (tie.spec
-    component-wise-requires
-    component-wise-requires-2
-    component-wise-requires-3
-    component-wise-requires-4
-    component-wise-requires-5
-    component-wise-requires-6
-    component-wise-requires-7
-    packing-requires
-    unpacking-requires
-    one-off-requires
-    geometric-requires
-    remaining-requires
-    returns
-    returns-2
-    returns-3
-    returns-4
-    returns-5
-    returns-6
-    returns-7
-    returns-8
-    returns-9
-    returns-10
-    returns-11
-    returns-12)
+    (λ c. set-at 4 (c .match .keys1))
+    (λ c. ⊎-elim (set-at 47) (set-at 49) (c .match .keys2))
+    (λ c. ⊎-elim (set-at 48) (set-at 50) (c .match .keys3))
+    (λ c. set-at 56 (c .match .keys4))
+    (λ c. set-at 57 (c .match .keys5))
+    (λ c. set-at 58 (c .match .keys6))
+    (λ c. set-at 59 (c .match .keys7))
+    (λ c. set-at 60 (c .match .keys8))
+    (λ c. set-at 61 (c .match .keys9))
+    (λ c. set-at 62 (c .match .keys10))
+    (λ c. set-at 63 (c .match .keys11))
+    (λ c. set-at 64 (c .match .keys12))
+    (λ c. set-at 65 (c .match .keys13))
+    (λ c. set-at 66 (c .match .keys14))
+    (λ c. set-at 67 (c .match .keys15))
+    (λ c. set-at 68 (c .match .keys16))
+    (λ c. set-at 69 (c .match .keys17))
+    (λ c. set-at 70 (c .match .keys18))
+    (λ c. set-at 71 (c .match .keys19))
+    (λ c. set-at 72 (c .match .keys20))
+    (λ c. set-at 73 (c .match .keys21))
+    (λ c. set-at 74 (c .match .keys22))
+    (λ c. set-at 75 (c .match .keys23))
+    (λ c. set-at 76 (c .match .keys24))
+    (λ c. set-at 77 (c .match .keys25))
+    (λ c. set-at 78 (c .match .keys26))
+    (λ c. sets-from 0 2 refl (omega arith) (c .if2 .taken))
+    (λ c. sets-from 2 2 refl (c .before .if2 .left) (c .if3 .taken))
+    (λ c.
+    let r = others _ 56 23 _ (c .before .before .before .before .match .rest) in
+    sets-from 5 26 refl (past (c .before .if3 .left) (r .0 .0 .1)) (c .if4 .taken))
+    (λ c. sets-from 31 3 refl (c .before .if4 .left) (c .if5 .taken))
+    (λ c. sets-from 34 2 refl (c .before .if5 .left) (c .if6 .taken))
+    (λ c. sets-from 36 6 refl (c .if6 .left) (c .before .before .before .before .before .if1 .taken))
+    (λ c. sets-from 42 2 refl (c .before .if1 .left) (c .if7 .taken))
+    (λ c. sets-from 44 3 refl (c .before .if7 .left) (c .if8 .taken))
+    (λ c.
+    let r = others _ 56 23 _ (c .before .before .before .before .match .rest) in
+    sets-from 51 2 refl
+    (past (past (past (past (c .before .if8 .left) (λ e. r .0 .1 (inl e))) (λ e. r .1 (inl e))) (λ e. r .0 .1 (inr e))) (λ e. r .1 (inr e)))
+    (c .if9 .taken))
+    (λ c. sets-from 53 3 refl (c .before .if9 .left) (c .if10 .taken))
+    (λ c. ap functionPaper (sym (no-function (none-of _ 56 23 (c .before .before .before .before .before .match .rest) (c .if10 .left))))))

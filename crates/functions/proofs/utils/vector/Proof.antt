@@ -1,22 +1,16 @@
--- `vector` meets its contract: the constructor of n components, 12 times, and the scalar. Assumes nothing.
-use mathlib.Core.Path.{refl}
+-- `vector` meets its contract: VEC2 and the sizes above the least one make the constructor's number. Assumes nothing.
+use native.Mathlib.Omega.{arith}
 use Rattle.functions.specs.Sequences.{vector}
 use borrow.Author.Needs.{needs}
 use Rattle.functions.proofs.utils.vector.Statement.{statement}
 use Rattle.functions.proofs.utils.vector.Tie as tie
 
-sub-result : tie.Need-sub-result
-sub-result c = search needs
-
-mul-result : tie.Need-mul-result
-mul-result c = search needs
-
-add-result : tie.Need-add-result
-add-result c = search needs
-
-returns : tie.Need-returns
-unfolding vector
-returns c = refl
-
 pub vector-spec : {M : Type 1} → statement M
-vector-spec = tie.close (tie.spec sub-result mul-result add-result returns)
+unfolding vector
+vector-spec =
+    tie.close
+    (tie.spec
+    (λ c. search needs)
+    (λ c. search needs)
+    (λ c κs. search needs)
+    (λ c. omega (arith, c .code .ensures)))

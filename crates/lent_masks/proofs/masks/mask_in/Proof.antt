@@ -23,7 +23,8 @@ word-in-requires c κs = search needs
 
 returns-3 : tie.Need-returns-3
 returns-3 c =
-    let needed = c .before .before .before .before .before .bytes-for in
+    let there = c .before .before .before .before .before in
+    let needed = there .bytes-for in
     read-mask _ _ (needed .ensures) (c .before .before .before .before .if1 .left) (c .before .before .before .stray .ensures) (c .before .before .if2 .left)
     8 (omega arith) (c .word-in .ensures)
 
@@ -32,7 +33,8 @@ word-in-requires-2 c κs = search needs
 
 returns-4 : tie.Need-returns-4
 returns-4 c =
-    let needed = c .before .before .before .before .before .bytes-for in
+    let there = c .before .before .before .before .before in
+    let needed = there .bytes-for in
     read-mask _ _ (needed .ensures) (c .before .before .before .before .if1 .left) (c .before .before .before .stray .ensures) (c .before .before .if2 .left)
     (needed .result) (omega arith) (c .word-in2 .ensures)
 

@@ -8,18 +8,6 @@ use borrow.Author.Needs.{needs}
 use Rattle.lists.proofs.any_overload_set.regular_answer.Statement.{statement}
 use Rattle.lists.proofs.any_overload_set.regular_answer.Tie as tie
 
-enum-known-answer : tie.Need-enum-known-answer
-enum-known-answer c = search needs
-
-any-regular-requires : tie.Need-any-regular-requires
-any-regular-requires c κs = search needs
-
-enum-known-answer-2 : tie.Need-enum-known-answer-2
-enum-known-answer-2 c = search needs
-
-any-regular-requires-2 : tie.Need-any-regular-requires-2
-any-regular-requires-2 c κs = search needs
-
 returns : tie.Need-returns
 returns c = rw (c .before .before .answer .given .1) (ap accepted (c .any-regular .ensures))
 
@@ -30,9 +18,9 @@ pub regular-answer-spec : {M : Type 1} → statement M
 regular-answer-spec =
     tie.close
     (tie.spec
-    enum-known-answer
-    any-regular-requires
-    enum-known-answer-2
-    any-regular-requires-2
+    (search needs)
+    (search needs)
+    (search needs)
+    (search needs)
     returns
     returns-2)

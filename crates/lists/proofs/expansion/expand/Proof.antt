@@ -6,6 +6,7 @@ use native.Mathlib.Omega.{arith}
 use lib.Count.{ones}
 use lib.ListN.{length}
 use mathlib.Core.List.{[]}
+use Rattle.rules.specs.Listing.{mostListed}
 use Rattle.scalars.specs.Paper.{accepted}
 use Rattle.regular.specs.Regular.{regularVerdict, codesOf}
 use Rattle.lists.specs.Expansion.{expanded}
@@ -24,24 +25,12 @@ ok c = sym (c .before .before .verdict .ensures) ∙ ap verdictPaper (c .enum-to
 many : (c : tie.After-enum-told) → ones (c .before .before .before .args .set .constructors .0) * ones (c .before .before .before .args .set .scalars .0) ≡ length (codesOf (c .before .before .before .args .set))
 many c = sym (codes-count (c .before .before .before .args .set) (accepted-known (c .before .before .before .args .set) (ok c)))
 
-few : (c : tie.After-enum-told) → ones (c .before .before .before .args .set .constructors .0) * ones (c .before .before .before .args .set .scalars .0) ≤ 156
+few : (c : tie.After-enum-told) → ones (c .before .before .before .args .set .constructors .0) * ones (c .before .before .before .args .set .scalars .0) ≤ mostListed
 few c = omega (arith, many c, codes-few (c .before .before .before .args .set))
-
-verdict-requires : tie.Need-verdict-requires
-verdict-requires c κs = search needs
-
-enum-known-why : tie.Need-enum-known-why
-enum-known-why c = search needs
-
-refused-requires : tie.Need-refused-requires
-refused-requires c κs = search needs
 
 returns : tie.Need-returns
 unfolding expanded
 returns c = rw (sym (c .before .before .before .before .verdict .ensures) ∙ ap verdictPaper (c .before .before .why .given .1)) (c .refused .ensures)
-
-enum-told : tie.Need-enum-told
-enum-told c = search needs
 
 mul-n : tie.Need-mul-n
 mul-n c = omega (arith, few (c .before .before))
@@ -49,58 +38,40 @@ mul-n c = omega (arith, few (c .before .before))
 cast-n : tie.Need-cast-n
 cast-n c = omega (arith, few (c .before .before))
 
-refused-requires-2 : tie.Need-refused-requires-2
-refused-requires-2 c κs = search needs
-
 returns-2 : tie.Need-returns-2
-returns-2 c = c .refused2 .ensures ∙ expand-many (c .before .before .before .before .before .before .before .args .set) (ok (c .before .before .before .before)) (many (c .before .before .before .before)) (c .before .if1 .taken)
-
-overload-list-requires : tie.Need-overload-list-requires
-overload-list-requires c κs = search needs
-
-enum-known-answer : tie.Need-enum-known-answer
-enum-known-answer c = search needs
-
-refused-requires-3 : tie.Need-refused-requires-3
-refused-requires-3 c κs = search needs
-
-enum-told-2 : tie.Need-enum-told-2
-enum-told-2 c = search needs
-
-front-requires : tie.Need-front-requires
-front-requires c κs = search needs
-
-len-to-full-mask-requires : tie.Need-len-to-full-mask-requires
-len-to-full-mask-requires c κs = search needs
-
-accepted-requires : tie.Need-accepted-requires
-accepted-requires c κs = search needs
+returns-2 c =
+    let asked = c .before .before .before .before .before .before .before in
+    c .refused2 .ensures ∙ expand-many (asked .args .set) (ok (c .before .before .before .before)) (many (c .before .before .before .before)) (c .before .if1 .taken)
 
 returns-3 : tie.Need-returns-3
-returns-3 c = c .refused3 .ensures ∙ expand-refused (c .before .before .before .before .before .before .before .before .before .before .before .before .args .set) (ok (c .before .before .before .before .before .before .before .before .before)) (many (c .before .before .before .before .before .before .before .before .before)) (c .before .before .before .before .before .before .if1 .left) _ (c .before .before .before .before .before .overload-list .ensures) _ (c .before .before .answer .given .1)
+returns-3 c =
+    let asked = c .before .before .before .before .before in
+    c .refused3 .ensures ∙ expand-refused (asked .before .before .before .before .before .before .before .args .set) (ok (asked .before .before .before .before)) (many (asked .before .before .before .before)) (asked .before .if1 .left) _ (asked .overload-list .ensures) _ (c .before .before .answer .given .1)
 
 returns-4 : tie.Need-returns-4
-returns-4 c = c .accepted .ensures ∙ expand-list (c .before .before .before .before .before .before .before .before .before .before .before .before .before .args .set) (ok (c .before .before .before .before .before .before .before .before .before .before)) (many (c .before .before .before .before .before .before .before .before .before .before)) (c .before .before .before .before .before .before .before .if1 .left) _ (c .before .before .before .before .before .before .overload-list .ensures) _ (c .before .before .before .enum-told2 .given .1) _ _ (c .before .before .front .ensures) (c .before .len-to-full-mask .ensures)
+returns-4 c =
+    let asked = c .before .before .before .before .before .before in
+    c .accepted .ensures ∙ expand-list (asked .before .before .before .before .before .before .before .args .set) (ok (asked .before .before .before .before)) (many (asked .before .before .before .before)) (asked .before .if1 .left) _ (asked .overload-list .ensures) _ (c .before .before .before .enum-told2 .given .1) _ _ (c .before .before .front .ensures) (c .before .len-to-full-mask .ensures)
 
 pub expand-spec : {M : Type 1} → statement M
 expand-spec =
     tie.close
     (tie.spec
-    verdict-requires
-    enum-known-why
-    refused-requires
+    (search needs)
+    (search needs)
+    (search needs)
     returns
-    enum-told
+    (search needs)
     mul-n
     cast-n
-    refused-requires-2
+    (search needs)
     returns-2
-    overload-list-requires
-    enum-known-answer
-    refused-requires-3
-    enum-told-2
-    front-requires
-    len-to-full-mask-requires
-    accepted-requires
+    (search needs)
+    (search needs)
+    (search needs)
+    (search needs)
+    (search needs)
+    (search needs)
+    (search needs)
     returns-3
     returns-4)

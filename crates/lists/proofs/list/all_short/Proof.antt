@@ -5,6 +5,7 @@ use native.Mathlib.Omega.{arith}
 use lib.ListN.{length, take, drop}
 use borrow.Author.Needs.{needs}
 use borrow.Author.Tests.{lt-leb, le-leb}
+use Rattle.lists.specs.List.{mostRules}
 use Rattle.scalars.specs.Mask.{every}
 use Rattle.rules.specs.Rule.{shortRule}
 use Rattle.scalars.proofs.Masks.{mapped-long}
@@ -20,30 +21,22 @@ abbrev μ-loop : tie.MeasureT-loop
 μ-loop n rules i₀ i = n - i
 
 enough : (c : tie.Start Inv-loop μ-loop) → c .args .n ≤ length (c .args .t1)
-enough c = let l : length (c .args .t1) ≡ 63 = search (needs, mapped-long) in omega arith
+enough c = let l : length (c .args .t1) ≡ mostRules = search (needs, mapped-long) in omega arith
 
 loop-holds : tie.Need-loop-holds Inv-loop μ-loop
 loop-holds c = (omega arith, refl)
 
-mul-rule : tie.Need-mul-rule Inv-loop μ-loop
-mul-rule c = omega arith
-
-array-copy-out-rule : tie.Need-array-copy-out-rule Inv-loop μ-loop
-array-copy-out-rule c = omega arith
-
 returns : tie.Need-returns Inv-loop μ-loop
 unfolding shortRule
-returns c = every-fails zeroRule _ _ _ (enough (c .before .before .before .before .before)) shortRule (c .before .before .before .before .loop .inv .1) (c .before .before .before .loop-test .taken) (lt-leb _ _ (c .if1 .taken))
-
-add-i : tie.Need-add-i Inv-loop μ-loop
-add-i c = omega arith
-
-loop-less : tie.Need-loop-less Inv-loop μ-loop
-loop-less c = omega arith
+returns c =
+    let there = c .before .before .before .before .before in
+    every-fails zeroRule _ _ _ (enough (there)) shortRule (c .before .before .before .before .loop .inv .1) (c .before .before .before .loop-test .taken) (lt-leb _ _ (c .if1 .taken))
 
 loop-again : tie.Need-loop-again Inv-loop μ-loop
 unfolding shortRule
-loop-again c = (omega arith, every-next zeroRule _ _ _ (enough (c .before .before .before .before .before)) shortRule (c .before .before .before .before .loop .inv .1) (c .before .before .before .loop-test .taken) (le-leb _ _ (c .if1 .left)))
+loop-again c =
+    let there = c .before .before .before .before .before in
+    (omega arith, every-next zeroRule _ _ _ (enough (there)) shortRule (c .before .before .before .before .loop .inv .1) (c .before .before .before .loop-test .taken) (le-leb _ _ (c .if1 .left)))
 
 returns-2 : tie.Need-returns-2 Inv-loop μ-loop
 returns-2 c = every-ends zeroRule _ _ _ (enough (c .before .before)) shortRule (c .before .loop .inv .1) (c .loop-test .left)
@@ -55,10 +48,10 @@ all-short-spec =
     Inv-loop
     μ-loop
     loop-holds
-    mul-rule
-    array-copy-out-rule
+    (search needs)
+    (search needs)
     returns
-    add-i
-    loop-less
+    (search needs)
+    (search needs)
     loop-again
     returns-2)

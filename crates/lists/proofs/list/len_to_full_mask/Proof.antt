@@ -11,9 +11,6 @@ use Rattle.lists.proofs.list.len_to_full_mask.Tie as tie
 returns : tie.Need-returns
 returns c = simp (lt-leb _ _ (c .if1 .taken))
 
-shl-result : tie.Need-shl-result
-shl-result c = search needs
-
 sub-result : tie.Need-sub-result
 sub-result c = omega (arith, bit-is 64 (c .before .args .n) (omega arith), pow-pos (c .before .args .n))
 
@@ -21,4 +18,4 @@ returns-2 : tie.Need-returns-2
 returns-2 c = simp (le-leb _ _ (c .if1 .left), bit-is 64 (c .before .args .n) (omega arith))
 
 pub len-to-full-mask-spec : {M : Type 1} → statement M
-len-to-full-mask-spec = tie.close (tie.spec returns shl-result sub-result returns-2)
+len-to-full-mask-spec = tie.close (tie.spec returns (search needs) sub-result returns-2)

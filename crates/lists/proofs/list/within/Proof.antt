@@ -14,11 +14,8 @@ use Rattle.lists.proofs.list.within.Tie as tie
 returns : tie.Need-returns
 returns c = sym (lt-ltb _ _ (lt-of-lt-of-le (omega arith) (pow-mono (c .if1 .taken))))
 
-shl-result : tie.Need-shl-result
-shl-result c = search needs
-
 returns-2 : tie.Need-returns-2
 returns-2 c = ap (ltb (c .before .args .members)) (bit-is 64 (c .before .args .n) (omega arith))
 
 pub within-spec : {M : Type 1} → statement M
-within-spec = tie.close (tie.spec returns shl-result returns-2)
+within-spec = tie.close (tie.spec returns (search needs) returns-2)

@@ -1,115 +1,116 @@
 -- `allowed` meets its contract. The loop's invariant: the types so far, followed by those of the members that are left, are the whole
 -- listing of types, and the rest have the argument if and only if all have it. Assumes nothing.
 use mathlib.Core.Path.{_≡_, refl, sym, ap, ap₂, _∙_}
-use mathlib.Core.List.{List, _∷_, map}
-use Prim.Native.Nat.{ℕ, _+_, _*_, _%_, _^_, _<_}
+use mathlib.Core.List.{List, [], _∷_, map}
+use Prim.Native.Nat.{ℕ, _+_, _^_, _<_}
 use native.Mathlib.Nat.{zero-add}
 use native.Mathlib.Omega.{arith}
-use lib.Count.{trailingZeros}
-use lib.ListN.{length, getD, length-set, length-map, length-replicate}
+use lib.ListN.{length, length-set, length-map, length-replicate}
 use lib.Seq.{sets}
+use borrow.Author.Needs.{needs}
 use Rattle.scalars.specs.Mask.{select, padded, every}
-use Rattle.rules.specs.Listing.{acceptedTypes}
+use Rattle.scalars.specs.Paper.{accepted, unused}
+use Rattle.rules.specs.Listing.{mostListed, acceptedTypes}
+use Rattle.rules.specs.Rule.{blankRule, argumentsOf, signatureOf}
 use Rattle.rules.specs.Signature.{typeAt}
-use Rattle.lists.specs.List.{signatures, listing}
-use Rattle.scalars.specs.Paper.{accepted}
+use Rattle.lists.specs.List.{mostRules, signatures, listing}
 use Rattle.scalars.proofs.Fills.{filled, fill-step, fill-end}
-use Rattle.rules.proofs.Records.{zeroRule, hasAt}
-use Rattle.lists.proofs.Lists.{Member, member, none-left, listing-length}
+use Rattle.scalars.proofs.Walks.{Walked}
+use Rattle.rules.proofs.Records.{hasAt, clean-count}
+use Rattle.lists.proofs.Lists.{valid-long, valid-within, rule-clean, turned, turned-out, none-left, listing-length}
 use Rattle.lists.proofs.TypesAt.{lacks, has, all-have}
 use Rattle.lists.proofs.walks.allowed.Statement.{statement}
 use Rattle.lists.proofs.walks.allowed.Tie as tie
 
 abbrev Inv-loop : tie.InvT-loop
-Inv-loop i list out₀ count₀ rest₀ out count rest = (rest < 2 ^ list .len) × (count + length (select (signatures list) rest) ≡ length (listing list)) × (length out ≡ 156) × (sets out count (map (typeAt i) (select (signatures list) rest)) ≡ padded 156 255 (map (typeAt i) (listing list))) × (every (hasAt i) (select (signatures list) rest) ≡ every (hasAt i) (listing list))
+Inv-loop list i out₀ count₀ walk₀ out count walk = (walk .0 < 2 ^ length (signatures list)) × (count + length (select (signatures list) (walk .0)) ≡ length (listing list)) × (length out ≡ mostListed) × (sets out count (map (typeAt i) (select (signatures list) (walk .0))) ≡ padded mostListed unused (map (typeAt i) (listing list))) × (every (hasAt i) (select (signatures list) (walk .0)) ≡ every (hasAt i) (listing list))
 
 abbrev μ-loop : tie.MeasureT-loop
-μ-loop i list out₀ count₀ rest₀ out count rest = rest
+μ-loop list i out₀ count₀ walk₀ out count walk = walk .0
 
-lowest : (c : tie.In-loop Inv-loop μ-loop) → Member (c .before .before .before .args .t1) (c .before .loop .rest)
-    (getD (c .before .before .before .args .t1 .rules) (trailingZeros 64 (c .before .loop .rest)) zeroRule) ((1 * 2 ^ trailingZeros 64 (c .before .loop .rest)) % 2 ^ 64)
-lowest c = member _ _ (c .before .before .before .pre) (omega arith) (c .before .loop .inv .0)
+-- the lowest member of what is left
+abbrev turn : tie.After-rule Inv-loop μ-loop → tie.At-loop Inv-loop μ-loop
+turn c =
+    let there = c .before .before .before .before .before .before in
+    there
 
-fits : (c : tie.In-loop Inv-loop μ-loop) → c .before .loop .count < 63
-fits c = omega (arith, ap length (lowest c .members), listing-length (c .before .before .before .args .t1) (c .before .before .before .pre))
+lowest : (c : tie.After-rule Inv-loop μ-loop)
+    → Walked (signatureOf (c .rule .result)) (signatures (turn c .before .before .args .list)) (turn c .loop .walk .0) (c .before .number .result .0) (c .before .before .before .bit .given .0 .0 .0) (c .before .before .before .bit .given .0 .1 .0 .0)
+lowest c =
+    let next = c .before .before .before .before .before in
+    turned blankRule _ _ (valid-long _ (turn c .before .before .pre)) (turn c .loop .inv .0) (c .before .before .before .bit .given .1) (next .next .ensures) (c .before .number .ensures) (c .rule .ensures)
 
--- at the end the count is the listing's length
-all : (c : tie.After-loop Inv-loop μ-loop) → c .before .loop .count ≡ length (listing (c .before .before .before .args .t1))
-all c = omega (arith, ap length (none-left (c .before .before .before .args .t1) (c .loop-test .left)))
+fits : (c : tie.After-rule Inv-loop μ-loop) → turn c .loop .count < mostRules
+fits c =
+    let start = turn c .before .before in
+    omega (arith, turn c .loop .inv .1, ap length (lowest c .members), listing-length (start .args .list) (start .pre))
 
-no-codes-requires : tie.Need-no-codes-requires Inv-loop μ-loop
-no-codes-requires c κs = tt
+-- its count is the number of its arguments
+counts : (c : tie.After-rule Inv-loop μ-loop) → length (argumentsOf (c .rule .result)) ≡ c .rule .result .count
+counts c = clean-count (rule-clean _ (c .rule .ensures) (turn c .before .before .pre) (lowest c .below))
+
+-- at the end no member is left, and the count is the listing's length
+abbrev last : tie.After-enum-told Inv-loop μ-loop → tie.At-loop Inv-loop μ-loop
+last c = c .before .before .before
+
+none : (c : tie.After-enum-told Inv-loop μ-loop) → select (signatures (last c .before .before .args .list)) (last c .loop .walk .0) ≡ []
+none c =
+    none-left _ (turned-out _ _ (valid-long _ (last c .before .before .pre)) (last c .loop .inv .0) (c .enum-told .given .1) (c .before .before .next .ensures))
+
+all : (c : tie.After-enum-told Inv-loop μ-loop) → last c .loop .count ≡ length (listing (last c .before .before .args .list))
+all c = omega (arith, last c .loop .inv .1, ap length (none c))
 
 loop-holds : tie.Need-loop-holds Inv-loop μ-loop
 unfolding listing
-loop-holds c = (
-  c .before .pre .within,
-  zero-add _,
-  ap length (c .no-codes .ensures) ∙ length-replicate {A = ℕ} 156 255,
-  rw (c .no-codes .ensures)
-      (filled 156 255 (map (typeAt (c .before .args .i)) (listing (c .before .args .t1))) (omega (arith, length-map (listing (c .before .args .t1)) (typeAt (c .before .args .i)), listing-length (c .before .args .t1) (c .before .pre)))),
-  refl,
-)
+loop-holds c =
+    let l = c .before .args .list in
+    let i = c .before .args .i in (
+      valid-within l (c .before .pre),
+      zero-add _,
+      ap length (c .no-codes .ensures) ∙ length-replicate {A = ℕ} mostListed unused,
+      rw (c .no-codes .ensures)
+          (filled mostListed unused (map (typeAt i) (listing l)) (omega (arith, length-map (listing l) (typeAt i), listing-length l (c .before .pre)))),
+      refl,
+    )
 
-cast-n : tie.Need-cast-n Inv-loop μ-loop
-cast-n c = omega (arith, lowest c .below)
-
-mul-rule : tie.Need-mul-rule Inv-loop μ-loop
-mul-rule c = omega (arith, lowest c .below)
-
-element-copy-out-rule : tie.Need-element-copy-out-rule Inv-loop μ-loop
-element-copy-out-rule c = omega (arith, lowest c .below)
-
-cast-if1 : tie.Need-cast-if1 Inv-loop μ-loop
-cast-if1 c = omega arith
-
-no-types-requires : tie.Need-no-types-requires Inv-loop μ-loop
-no-types-requires c κs = tt
+cast-t11 : tie.Need-cast-t11 Inv-loop μ-loop
+cast-t11 c = let start = last c .before .before in omega (arith, all c, listing-length (start .args .list) (start .pre))
 
 returns : tie.Need-returns Inv-loop μ-loop
+unfolding acceptedTypes
 returns c =
-    c .no-types .ensures
-    ∙ lacks _ _ (c .before .before .before .before .before .loop .inv .4) (lowest (c .before .before .before .before) .members)
-    (omega (arith, lowest (c .before .before .before .before) .count))
-
-argument-requires : tie.Need-argument-requires Inv-loop μ-loop
-argument-requires c κs = tt
-
-array-write-out : tie.Need-array-write-out Inv-loop μ-loop
-array-write-out c = omega (arith, fits (c .before .before .before .before))
-
-add-count : tie.Need-add-count Inv-loop μ-loop
-add-count c = omega (arith, fits (c .before .before .before .before))
-
-shl-rest : tie.Need-shl-rest Inv-loop μ-loop
-shl-rest c = omega (arith, lowest (c .before .before .before .before) .below)
-
-sub-rest : tie.Need-sub-rest Inv-loop μ-loop
-sub-rest c = lowest (c .before .before .before .before) .part
-
-loop-less : tie.Need-loop-less Inv-loop μ-loop
-loop-less c = omega (arith, lowest (c .before .before .before .before) .part, lowest (c .before .before .before .before) .some)
-
-loop-again : tie.Need-loop-again Inv-loop μ-loop
-loop-again c = (
-  lowest (c .before .before .before .before) .less,
-  omega (arith, ap length (lowest (c .before .before .before .before) .members)),
-  simp length-set (c .before .before .before .before .before .loop .inv .2),
-  rw (c .argument .ensures)
-      (fill-step _ _ (ap (map (typeAt (c .before .before .before .before .before .before .before .args .i))) (lowest (c .before .before .before .before) .members)) (c .before .before .before .before .before .loop .inv .3)),
-  has (c .before .before .before .before .before .before .before .args .i) (listing (c .before .before .before .before .before .before .before .args .t1)) (c .before .before .before .before .before .loop .inv .4) (lowest (c .before .before .before .before) .members)
-      (omega (arith, lowest (c .before .before .before .before) .count)),
-)
-
-cast-t22 : tie.Need-cast-t22 Inv-loop μ-loop
-cast-t22 c = omega (arith, all c, listing-length (c .before .before .before .args .t1) (c .before .before .before .pre))
+    let loop = last c in
+    let i = loop .before .before .args .i in
+    ap₂ (λ (n : ℕ) (ts : List ℕ). accepted (n ∷ ts)) (all c ∙ sym (length-map (listing (loop .before .before .args .list)) (typeAt i)))
+    (fill-end _ _ (ap (map (typeAt i)) (none c)) (loop .loop .inv .3))
+    ∙ all-have _ _ (loop .loop .inv .4) (none c)
 
 returns-2 : tie.Need-returns-2 Inv-loop μ-loop
-unfolding acceptedTypes
 returns-2 c =
-    ap₂ (λ (n : ℕ) (ts : List ℕ). accepted (n ∷ ts)) (all c ∙ sym (length-map (listing (c .before .before .before .args .t1)) (typeAt (c .before .before .before .args .i))))
-    (fill-end _ _ (ap (map (typeAt (c .before .before .before .args .i))) (none-left _ (c .loop-test .left))) (c .before .loop .inv .3))
-    ∙ all-have _ _ (c .before .loop .inv .4) (none-left _ (c .loop-test .left))
+    let rule = c .before .before .before in
+    c .no-types .ensures ∙ lacks _ _ (turn rule .loop .inv .4) (lowest rule .members) (omega (arith, counts rule))
+
+array-write-out : tie.Need-array-write-out Inv-loop μ-loop
+array-write-out c = omega (arith, fits (c .before .before .before))
+
+add-count : tie.Need-add-count Inv-loop μ-loop
+add-count c = omega (arith, fits (c .before .before .before))
+
+loop-less : tie.Need-loop-less Inv-loop μ-loop
+loop-less c = let t = lowest (c .before .before .before) in omega (arith, t .apart, t .some)
+
+loop-again : tie.Need-loop-again Inv-loop μ-loop
+loop-again c =
+    let rule = c .before .before .before in
+    let t = lowest rule in
+    let inv = turn rule .loop .inv in
+    let start = turn rule .before .before in (
+      t .less,
+      omega (arith, inv .1, ap length (t .members)),
+      simp length-set (inv .2),
+      rw (c .argument .ensures) (fill-step _ _ (ap (map (typeAt (start .args .i))) (t .members)) (inv .3)),
+      has (start .args .i) (listing (start .args .list)) (inv .4) (t .members) (omega (arith, counts rule)),
+    )
 
 pub allowed-spec : {M : Type 1} → statement M
 allowed-spec =
@@ -117,20 +118,20 @@ allowed-spec =
     (tie.spec
     Inv-loop
     μ-loop
-    no-codes-requires
+    (search needs)
     loop-holds
-    cast-n
-    mul-rule
-    element-copy-out-rule
-    cast-if1
-    no-types-requires
+    (search needs)
+    (search needs)
+    cast-t11
     returns
-    argument-requires
+    (search needs)
+    (search needs)
+    (search needs)
+    (search needs)
+    (search needs)
+    returns-2
+    (search needs)
     array-write-out
     add-count
-    shl-rest
-    sub-rest
     loop-less
-    loop-again
-    cast-t22
-    returns-2)
+    loop-again)

@@ -1,94 +1,94 @@
 -- `filter` meets its contract. The loop's invariant: the members kept so far, and those that pass among the rest, are those that pass.
 -- Assumes nothing.
-use mathlib.Core.Path.{_≡_, sym, _∙_}
+use mathlib.Core.Path.{_≡_, refl, sym, _∙_}
 use mathlib.Core.Bool.{Bool, true, false}
-use mathlib.Core.Logic.{⊎-elim}
-use Prim.Native.Nat.{_+_, _-_, _*_, _%_, _^_, _<_, min}
+use Prim.Native.Nat.{_+_, _^_, _<_}
 use native.Mathlib.Nat.{zero-add}
 use native.Mathlib.Omega.{arith}
-use lib.Count.{trailingZeros}
 use lib.ListN.{length, getD}
 use borrow.Author.Needs.{needs}
 use Rattle.scalars.specs.Mask.{sift}
-use Rattle.rules.specs.Rule.{passes}
-use Rattle.lists.specs.List.{signatures}
-use Rattle.scalars.proofs.Masks.{gain, sift-le, mapped-long}
+use Rattle.rules.specs.Rule.{passes, signatureOf}
 use Rattle.rules.proofs.Records.{zeroRule}
-use Rattle.lists.proofs.Lists.{Turned, turned, with-rules-less, with-rules-sifted}
+use Rattle.lists.specs.List.{mostRules, signatures}
+use Rattle.scalars.proofs.Masks.{gain, sift-le, mapped-long}
+use Rattle.scalars.proofs.Walks.{Walked}
+use Rattle.lists.proofs.Lists.{turned, turned-out, turned-below, with-rules-less, with-rules-sifted}
 use Rattle.lists.proofs.walks.filter.Statement.{statement}
 use Rattle.lists.proofs.walks.filter.Tie as tie
 
 abbrev Inv-loop : tie.InvT-loop
-Inv-loop keep list rest₀ left₀ rest left = (rest < 2 ^ min (list .len) 63) × (left + sift (passes keep) (signatures list) rest ≡ sift (passes keep) (signatures list) rest₀)
+Inv-loop keep list walk₀ left₀ walk left = (walk .0 < 2 ^ length (signatures list)) × (left + sift (passes keep) (signatures list) (walk .0) ≡ sift (passes keep) (signatures list) (walk₀ .0))
 
 abbrev μ-loop : tie.MeasureT-loop
-μ-loop keep list rest₀ left₀ rest left = rest
+μ-loop keep list walk₀ left₀ walk left = walk .0
 
-long : (c : tie.Start Inv-loop μ-loop) → length (c .args .t1 .rules) ≡ 63
+long : (c : tie.Start Inv-loop μ-loop) → length (c .args .t1 .rules) ≡ mostRules
 long c = search (needs, mapped-long)
 
-lowest : (c : tie.In-loop Inv-loop μ-loop) → Turned (c .before .before .before .args .t1) (c .before .loop .rest)
-    (getD (c .before .before .before .args .t1 .rules) (trailingZeros 64 (c .before .loop .rest)) zeroRule) ((1 * 2 ^ trailingZeros 64 (c .before .loop .rest)) % 2 ^ 64)
-lowest c = turned _ _ (long (c .before .before .before)) (omega arith) (c .before .loop .inv .0)
+-- the lowest member of what is left
+abbrev turn : tie.After-number Inv-loop μ-loop → tie.At-loop Inv-loop μ-loop
+turn c =
+    let there = c .before .before .before .before .before in
+    there
+
+lowest : (c : tie.After-number Inv-loop μ-loop)
+    → Walked (signatureOf (getD (turn c .before .before .args .t1 .rules) (c .number .result .0) zeroRule)) (signatures (turn c .before .before .args .t1))
+    (turn c .loop .walk .0) (c .number .result .0) (c .before .before .bit .given .0 .0 .0) (c .before .before .bit .given .0 .1 .0 .0)
+lowest c =
+    let next = c .before .before .before .before in
+    turned zeroRule _ _ (long (turn c .before .before)) (turn c .loop .inv .0) (c .before .before .bit .given .1) (next .next .ensures) (c .number .ensures) refl
 
 -- what the turn's test says, of the two masks
-tested : (c : tie.After-passes Inv-loop μ-loop) (b : Bool) → c .passes .result ≡ b
-    → sift (passes (c .before .before .before .before .before .args .keep)) (signatures (c .before .before .before .before .before .args .t1)) (c .before .before .before .loop .rest)
-    ≡ gain b ((1 * 2 ^ trailingZeros 64 (c .before .before .before .loop .rest)) % 2 ^ 64)
-    + sift (passes (c .before .before .before .before .before .args .keep)) (signatures (c .before .before .before .before .before .args .t1))
-    (c .before .before .before .loop .rest - (1 * 2 ^ trailingZeros 64 (c .before .before .before .loop .rest)) % 2 ^ 64)
-tested c b e = rw (sym e ∙ c .passes .ensures) (lowest (c .before .before) .step (passes (c .before .before .before .before .before .args .keep)))
+tested : (c : tie.After-passes Inv-loop μ-loop) (b : Bool) → c .passes .result ≡ b →
+    let number = c .before .before .before in
+    let start = turn number .before .before in
+    sift (passes (start .args .keep)) (signatures (start .args .t1)) (turn number .loop .walk .0)
+    ≡ gain b (number .before .before .bit .given .0 .0 .0)
+    + sift (passes (start .args .keep)) (signatures (start .args .t1)) (number .before .before .bit .given .0 .1 .0 .0)
+tested c b e =
+    let number = c .before .before .before in
+    rw (sym e ∙ c .passes .ensures) (lowest number .step (passes (turn number .before .before .args .keep)))
 
 loop-holds : tie.Need-loop-holds Inv-loop μ-loop
-loop-holds c =
-    let l = c .before .args .t1 in
-    (with-rules-less l (long (c .before)) _ (c .with-rules .ensures), zero-add _)
-
-with-rules-requires : tie.Need-with-rules-requires Inv-loop μ-loop
-with-rules-requires c κs = tt
-
-cast-n : tie.Need-cast-n Inv-loop μ-loop
-cast-n c = omega (arith, lowest c .below)
-
-shl-bit : tie.Need-shl-bit Inv-loop μ-loop
-shl-bit c = omega (arith, lowest c .below)
-
-mul-rule : tie.Need-mul-rule Inv-loop μ-loop
-mul-rule c = omega (arith, lowest c .below)
-
-element-copy-out-rule : tie.Need-element-copy-out-rule Inv-loop μ-loop
-element-copy-out-rule c = omega (arith, lowest c .below)
-
-passes-requires : tie.Need-passes-requires Inv-loop μ-loop
-passes-requires c κs = tt
-
-add-left : tie.Need-add-left Inv-loop μ-loop
-add-left c =
-    omega (
-      arith,
-      tested (c .before) true (c .if1 .taken),
-      sift-le (passes (c .before .before .before .before .before .before .args .keep)) (signatures (c .before .before .before .before .before .before .args .t1))
-          (c .before .before .before .before .before .with-rules .result),
-    )
-
-sub-rest : tie.Need-sub-rest Inv-loop μ-loop
-sub-rest c = lowest (c .before .before .before) .part
-
-loop-less : tie.Need-loop-less Inv-loop μ-loop
-loop-less c = omega (arith, lowest (c .before .before .before) .part, lowest (c .before .before .before) .some)
-
-loop-again : tie.Need-loop-again Inv-loop μ-loop
-loop-again c = (
-  lowest (c .before .before .before) .less,
-  ⊎-elim (λ w. omega (arith, tested (c .before) true (w .0 .taken))) (λ w. omega (arith, tested (c .before) false (w .0 .left))) (c .if1 .came),
-)
+loop-holds c = (with-rules-less (c .before .args .t1) (long (c .before)) _ (c .with-rules .ensures), zero-add _)
 
 returns : tie.Need-returns Inv-loop μ-loop
 returns c =
-    let start = c .before .before .before in
+    let loop = c .before .before .before in
+    let start = loop .before .before in
     let p = passes (start .args .keep) in
-    let l = start .args .t1 in
-    omega (arith, sift-le p (signatures l) (c .before .loop .rest), with-rules-sifted l (long start) (start .args .rules .0) (c .before .before .with-rules .ensures) p)
+    let none = turned-out _ _ (long start) (loop .loop .inv .0) (c .enum-told .given .1) (c .before .before .next .ensures) in
+    omega (arith, loop .loop .inv .1, sift-le p (signatures (start .args .t1)) (loop .loop .walk .0), with-rules-sifted (start .args .t1) (long start) (start .args .rules .0) (loop .before .with-rules .ensures) p)
+
+below : tie.Need-element-copy-out-rule Inv-loop μ-loop
+below c = turned-below _ (long (turn (c .before) .before .before)) (lowest (c .before))
+
+add-left : tie.Need-add-left Inv-loop μ-loop
+add-left c =
+    let test = c .before .before in
+    let loop = turn (test .before .before .before) in
+    let start = loop .before in
+    omega (
+      arith,
+      loop .loop .inv .1,
+      tested test true (c .before .if1 .taken),
+      sift-le (passes (start .before .args .keep)) (signatures (start .before .args .t1)) (start .with-rules .result),
+    )
+
+loop-less : tie.Need-loop-less Inv-loop μ-loop
+loop-less c =
+    let there = c .before .before .before .before .before in
+    let t = lowest (there) in omega (arith, t .apart, t .some)
+
+loop-again : tie.Need-loop-again Inv-loop μ-loop
+loop-again c = let test = c .before .before in (lowest (test .before .before .before) .less, omega (arith, tested test true (c .before .if1 .taken)))
+
+loop-less-2 : tie.Need-loop-less-2 Inv-loop μ-loop
+loop-less-2 c = let t = lowest (c .before .before .before .before) in omega (arith, t .apart, t .some)
+
+loop-again-2 : tie.Need-loop-again-2 Inv-loop μ-loop
+loop-again-2 c = (lowest (c .before .before .before .before) .less, omega (arith, tested (c .before) false (c .if1 .left)))
 
 pub filter-spec : {M : Type 1} → statement M
 filter-spec =
@@ -96,15 +96,19 @@ filter-spec =
     (tie.spec
     Inv-loop
     μ-loop
-    with-rules-requires
+    (search needs)
     loop-holds
-    cast-n
-    shl-bit
-    mul-rule
-    element-copy-out-rule
-    passes-requires
+    (search needs)
+    (search needs)
+    returns
+    (search needs)
+    (search needs)
+    (search needs)
+    (λ c. omega (arith, below c))
+    below
+    (search needs)
     add-left
-    sub-rest
     loop-less
     loop-again
-    returns)
+    loop-less-2
+    loop-again-2)

@@ -9,9 +9,6 @@ use Rattle.scalars.proofs.Masks.{bit-is}
 use Rattle.lists.proofs.walks.with_rules.Statement.{statement}
 use Rattle.lists.proofs.walks.with_rules.Tie as tie
 
-held-requires : tie.Need-held-requires
-held-requires c κs = search needs
-
 shl-result : tie.Need-shl-result
 shl-result c = omega (arith, c .held .ensures)
 
@@ -24,4 +21,4 @@ returns c =
     ∙ ap (λ (k : ℕ). c .before .args .mask % 2 ^ k) (c .held .ensures)
 
 pub with-rules-spec : {M : Type 1} → statement M
-with-rules-spec = tie.close (tie.spec held-requires shl-result rem-result returns)
+with-rules-spec = tie.close (tie.spec (search needs) shl-result rem-result returns)

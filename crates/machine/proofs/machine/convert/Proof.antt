@@ -28,7 +28,8 @@ reaches-requires c κs = search needs
 
 returns-3 : tie.Need-returns-3
 returns-3 c =
-    convert-unreached _ (c .before .before .before .before .before .pre) _ _ (omega arith) (c .before .before .if2 .left)
+    let there = c .before .before .before .before .before in
+    convert-unreached _ (there .pre) _ _ (omega arith) (c .before .before .if2 .left)
     (sym (c .before .reaches .ensures) ∙ not-true _ (c .if3 .taken))
 
 array-write-types : tie.Need-array-write-types
@@ -36,7 +37,8 @@ array-write-types c = search needs
 
 returns-4 : tie.Need-returns-4
 returns-4 c =
-    converted _ (c .before .before .before .before .before .before .pre) _ _ (omega arith) (c .before .before .before .if2 .left)
+    let there = c .before .before .before .before .before .before in
+    converted _ (there .pre) _ _ (omega arith) (c .before .before .before .if2 .left)
     (sym (c .before .before .reaches .ensures) ∙ not-false _ (c .before .if3 .left))
 
 pub convert-spec : {M : Type 1} → statement M

@@ -43,7 +43,8 @@ convert-requires c κs = search needs
 
 returns-6 : tie.Need-returns-6
 returns-6 c =
-    let a = c .before .before .before .before .before .args in
+    let there = c .before .before .before .before .before in
+    let a = there .args in
     conversion-line listingOf (a .tag) (a .x) (a .y) (a .z) (a .stack) (c .before .before .if5 .taken)
     (c .convert .result) (c .before .if6 .left) (c .convert .ensures)
 

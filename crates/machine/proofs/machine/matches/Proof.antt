@@ -41,8 +41,9 @@ is-exactly-requires c κs = search needs
 
 returns : tie.Need-returns Inv-loop μ-loop
 returns c =
-    let start = c .before .before .before .before .before .before .before in
-    let loop = c .before .before .before .before .before .loop in
+    let there = c .before .before .before .before .before in
+    let start = there .before .before in
+    let loop = there .loop in
     let told = c .before .is-exactly .ensures ∙ ap (eqb _) (c .before .before .argument .ensures) in
     let differs = alike-differ (start .args .t1) (start .args .rule) (start .pre .0) (start .pre .1) (start .pre .2) (loop .i) in
     sym (differs (c .before .before .before .before .loop-test .taken) _ told (not-true _ (c .if1 .taken))) ∙ loop .inv .1
@@ -55,8 +56,9 @@ loop-less c = omega arith
 
 loop-again : tie.Need-loop-again Inv-loop μ-loop
 loop-again c =
-    let start = c .before .before .before .before .before .before .before in
-    let loop = c .before .before .before .before .before .loop in
+    let there = c .before .before .before .before .before in
+    let start = there .before .before in
+    let loop = there .loop in
     let told = c .before .is-exactly .ensures ∙ ap (eqb _) (c .before .before .argument .ensures) in
     let alike = alike-next (start .args .t1) (start .args .rule) (start .pre .0) (start .pre .1) (start .pre .2) (loop .i) in
     (omega arith, alike (c .before .before .before .before .loop-test .taken) _ told (not-false _ (c .if1 .left)) ∙ loop .inv .1)

@@ -60,12 +60,15 @@ shared-slice-read-do-line-4 : tie.Need-shared-slice-read-do-line-4 Inv-loop μ-l
 shared-slice-read-do-line-4 c = omega arith
 
 do-line-requires : tie.Need-do-line-requires Inv-loop μ-loop
-do-line-requires c κs = c .before .before .before .before .before .before .loop .inv .2
+do-line-requires c κs =
+    let there = c .before .before .before .before .before .before in
+    there .loop .inv .2
 
 returns-2 : tie.Need-returns-2 Inv-loop μ-loop
 returns-2 c =
-    let sheet = c .before .before .before .before .before .before .before .before .before .before .before .before .args .sheet .now in
-    let loop = c .before .before .before .before .before .before .before .before .before .loop in
+    let there = c .before .before .before .before .before .before .before .before .before in
+    let sheet = there .before .before .before .args .sheet .now in
+    let loop = there .loop in
     let line = c .before .before .do-line in
     run-stopped listingOf sheet (loop .at) (loop .line) (operandsOf (loop .stack)) (loop .inv .3) (omega arith) (line .result)
     (line .ensures) (not-true _ (c .if2 .taken))
@@ -81,8 +84,9 @@ loop-less c = omega arith
 
 loop-again : tie.Need-loop-again Inv-loop μ-loop
 loop-again c =
-    let sheet = c .before .before .before .before .before .before .before .before .before .before .before .before .before .args .sheet .now in
-    let loop = c .before .before .before .before .before .before .before .before .before .before .loop in
+    let there = c .before .before .before .before .before .before .before .before .before .before in
+    let sheet = there .before .before .before .args .sheet .now in
+    let loop = there .loop in
     let line = c .before .before .before .do-line in
     let next = run-next listingOf sheet (loop .at) (loop .line) (operandsOf (loop .stack)) (loop .inv .3) (omega arith) (line .result)
     (line .ensures) (not-false _ (c .before .if2 .left)) in

@@ -8,11 +8,8 @@ use Rattle.rules.proofs.rule.abstract_at.Tie as tie
 returns : tie.Need-returns
 returns c = simp (le-leb _ _ (c .if1 .taken))
 
-is-abstract-requires : tie.Need-is-abstract-requires
-is-abstract-requires c κs = search needs
-
 returns-2 : tie.Need-returns-2
 returns-2 c = simp (lt-leb _ _ (c .before .if1 .left)) (c .is-abstract .ensures)
 
 pub abstract-at-spec : {M : Type 1} → statement M
-abstract-at-spec = tie.close (tie.spec returns is-abstract-requires returns-2)
+abstract-at-spec = tie.close (tie.spec returns (search needs) returns-2)

@@ -9,20 +9,11 @@ use Rattle.types.proofs.constructor_set.size_of.Tie as tie
 returns : tie.Need-returns
 returns c = sym (scalar-size _ (c .if1 .taken))
 
-add-t3 : tie.Need-add-t3
-add-t3 c = search needs
-
 returns-2 : tie.Need-returns-2
 returns-2 c = sym (vector-size _ (c .before .if1 .left) (c .if2 .taken))
-
-add-t6 : tie.Need-add-t6
-add-t6 c = search needs
-
-add-t9 : tie.Need-add-t9
-add-t9 c = search needs
 
 returns-3 : tie.Need-returns-3
 returns-3 c = sym (matrix-size _ (c .if2 .left) (c .before .before .pre))
 
 pub size-of-spec : {M : Type 1} → statement M
-size-of-spec = tie.close (tie.spec returns add-t3 returns-2 add-t6 add-t9 returns-3)
+size-of-spec = tie.close (tie.spec returns (search needs) (search needs) returns-2 (search needs) (search needs) returns-3)

@@ -14,9 +14,6 @@ returns-2 : tie.Need-returns-2
 unfolding combineOf
 returns-2 c = simp (lt-ltb _ _ (c .before .before .if1 .left), le-ltb _ _ (c .if2 .taken))
 
-combined-requires : tie.Need-combined-requires
-combined-requires c κs = search needs
-
 returns-3 : tie.Need-returns-3
 unfolding combineOf
 returns-3 c = simp (lt-ltb _ _ (c .before .before .before .before .if1 .left), lt-ltb _ _ (c .before .before .if2 .left), ← c .before .combined .ensures, eq-eqb _ _ (c .if3 .taken))
@@ -27,4 +24,4 @@ returns-4 c = simp (lt-ltb _ _ (c .before .before .before .before .if1 .left), l
 
 pub automatic-conversion-combine-spec : {M : Type 1} → statement M
 automatic-conversion-combine-spec =
-    tie.close (tie.spec returns returns-2 combined-requires returns-3 returns-4)
+    tie.close (tie.spec returns returns-2 (search needs) returns-3 returns-4)

@@ -16,12 +16,6 @@ returns-2 : tie.Need-returns-2
 unfolding convertsTo
 returns-2 c = simp (lt-ltb _ _ (c .before .before .if1 .left), le-ltb _ _ (c .if2 .taken))
 
-convertible-from-requires : tie.Need-convertible-from-requires
-convertible-from-requires c κs = search needs
-
-contains-requires : tie.Need-contains-requires
-contains-requires c κs = search needs
-
 returns-3 : tie.Need-returns-3
 returns-3 c =
     let e = c .before .before in
@@ -34,4 +28,4 @@ returns-4 c =
 
 pub automatically-converts-to-spec : {M : Type 1} → statement M
 automatically-converts-to-spec =
-    tie.close (tie.spec returns returns-2 convertible-from-requires contains-requires returns-3 returns-4)
+    tie.close (tie.spec returns returns-2 (search needs) (search needs) returns-3 returns-4)

@@ -7,18 +7,9 @@ use borrow.Author.Needs.{needs}
 use Rattle.types.proofs.conversion.combined.Statement.{statement}
 use Rattle.types.proofs.conversion.combined.Tie as tie
 
-mul-i : tie.Need-mul-i
-mul-i c = search needs
-
-add-i : tie.Need-add-i
-add-i c = search needs
-
-array-read-result : tie.Need-array-read-result
-array-read-result c = search needs
-
 returns : tie.Need-returns
 unfolding table combination converts
-returns c = table-rule _ _ (c .pre .0) (c .pre .1)
+returns c = table-rule _ _ (c .before .before .pre .0) (c .before .before .pre .1)
 
 pub combined-spec : {M : Type 1} → statement M
-combined-spec = tie.close (tie.spec mul-i add-i array-read-result returns)
+combined-spec = tie.close (tie.spec (search needs) (search needs) (search needs) (search needs) (search needs) (search needs) returns)

@@ -10,18 +10,9 @@ returns : tie.Need-returns
 unfolding consensusOf
 returns c = simp (le-ltb _ _ (c .if1 .taken))
 
-first-unknown-requires : tie.Need-first-unknown-requires
-first-unknown-requires c κs = search needs
-
-add-t7 : tie.Need-add-t7
-add-t7 c = search needs
-
 returns-2 : tie.Need-returns-2
 unfolding consensusOf
 returns-2 c = simp (lt-ltb _ _ (c .before .before .if1 .left), ← c .before .first-unknown .ensures, lt-ltb _ _ (c .if2 .taken))
-
-agree-from-requires : tie.Need-agree-from-requires
-agree-from-requires c κs = search needs
 
 returns-3 : tie.Need-returns-3
 unfolding consensusOf
@@ -30,4 +21,4 @@ returns-3 c = simp (lt-ltb _ _ (c .before .before .before .if1 .left), ← c .be
 pub consensus-with-spec : {M : Type 1} → statement M
 consensus-with-spec =
     tie.close
-    (tie.spec returns first-unknown-requires add-t7 returns-2 agree-from-requires returns-3)
+    (tie.spec returns (search needs) (search needs) returns-2 (search needs) returns-3)

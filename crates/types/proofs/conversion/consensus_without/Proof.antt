@@ -1,18 +1,15 @@
 -- `consensus_without` meets its contract: a list that is not empty has a first component, and the rest behind it.
 -- Assumes nothing.
-use mathlib.Core.Path.{_∙_}
+use mathlib.Core.Path.{sym, ap, _∙_}
+use native.Mathlib.Omega.{arith}
 use borrow.Author.Tests.{lt-ltb, le-ltb}
+use Rattle.types.specs.TypePaper.{leafPaper}
 use Rattle.types.specs.Conversion.{consensusOf}
+use Rattle.types.proofs.TypeCodes.{leaf-some, leaf-none}
 use Rattle.types.proofs.Combinations.{first-none, first-without, first-agrees}
 use borrow.Author.Needs.{needs}
 use Rattle.types.proofs.conversion.consensus_without.Statement.{statement}
 use Rattle.types.proofs.conversion.consensus_without.Tie as tie
-
-first-unknown-requires : tie.Need-first-unknown-requires
-first-unknown-requires c κs = search needs
-
-add-t6 : tie.Need-add-t6
-add-t6 c = search needs
 
 returns : tie.Need-returns
 unfolding consensusOf
@@ -20,31 +17,43 @@ returns c = simp (← c .before .first-unknown .ensures, lt-ltb _ _ (c .if1 .tak
 
 returns-2 : tie.Need-returns-2
 unfolding consensusOf
-returns-2 c = simp (← c .before .before .first-unknown .ensures, le-ltb _ _ (c .before .if1 .left)) (first-none (c .before .before .before .before .args .components .now) (c .if2 .taken))
-
-shared-slice-read-first : tie.Need-shared-slice-read-first
-shared-slice-read-first c = search needs
+returns-2 c =
+    let known = c .before in
+    simp (← known .before .first-unknown .ensures, le-ltb _ _ (known .if1 .left)) (first-none (known .before .before .before .args .components .now) (c .if2 .taken))
 
 returns-3 : tie.Need-returns-3
 unfolding consensusOf
-returns-3 c = simp (← c .before .before .before .before .first-unknown .ensures, le-ltb _ _ (c .before .before .before .if1 .left)) (first-without (c .before .before .before .before .before .before .args .components .now) (c .before .before .if2 .left) (c .if3 .taken))
+returns-3 c =
+    let some = c .before .before .before in
+    let known = some .before in
+    simp (← known .before .first-unknown .ensures, le-ltb _ _ (known .if1 .left))
+    (first-without (known .before .before .before .args .components .now) (some .if2 .left) (leaf-none _ (c .before .leaf-scalar .result) (c .before .leaf-scalar .ensures) (c .match .keys2)))
 
 agree-from-requires : tie.Need-agree-from-requires
-agree-from-requires c κs = search needs
+agree-from-requires c κs =
+    let f = leaf-some _ (sym (c .before .before .before .leaf-scalar .ensures) ∙ ap leafPaper (c .before .first .given .1)) in
+    record { 0 = omega (arith, f .1); 1 = omega arith }
 
 returns-4 : tie.Need-returns-4
 unfolding consensusOf
-returns-4 c = simp (← c .before .before .before .before .before .first-unknown .ensures, le-ltb _ _ (c .before .before .before .before .if1 .left)) (c .agree-from .ensures ∙ first-agrees (c .before .before .before .before .before .before .before .args .components .now) (c .before .before .before .if2 .left) (c .before .if3 .left))
+returns-4 c =
+    let told = c .before .before in
+    let some = told .before .before .before .before in
+    let known = some .before in
+    simp (← known .before .first-unknown .ensures, le-ltb _ _ (known .if1 .left))
+    (c .agree-from .ensures ∙ first-agrees (known .before .before .before .args .components .now) (some .if2 .left) (sym (told .before .before .leaf-scalar .ensures) ∙ ap leafPaper (told .first .given .1)))
 
 pub consensus-without-spec : {M : Type 1} → statement M
 consensus-without-spec =
     tie.close
     (tie.spec
-    first-unknown-requires
-    add-t6
+    (search needs)
+    (search needs)
     returns
     returns-2
-    shared-slice-read-first
+    (search needs)
+    (search needs)
+    (search needs)
     returns-3
     agree-from-requires
     returns-4)

@@ -5,7 +5,7 @@ use mathlib.Core.Path.{_≡_}
 use native.Mathlib.Nat.{zero-add}
 use native.Mathlib.Omega.{arith}
 use lib.ListN.{length, drop}
-use Rattle.scalars.specs.Domain.{firstUnknown}
+use Rattle.types.specs.Domain.{firstUnknown}
 use Rattle.types.proofs.Codes.{unknown-here, unknown-later, unknown-none}
 use Rattle.types.proofs.type_code.first_unknown.Statement.{statement}
 use Rattle.types.proofs.type_code.first_unknown.Tie as tie

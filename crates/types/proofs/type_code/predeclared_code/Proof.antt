@@ -26,15 +26,6 @@ returns-5 : tie.Need-returns-5
 unfolding predeclaredCode
 returns-5 c = simp (lt-ltb _ _ (c .before .before .before .before .if1 .left), lt-ltb _ _ (c .before .before .before .if2 .left), lt-ltb _ _ (c .before .before .if3 .left), le-leb _ _ (c .before .if4 .left), lt-leb _ _ (c .if5 .taken))
 
-mul-t12 : tie.Need-mul-t12
-mul-t12 c = search needs
-
-add-t13 : tie.Need-add-t13
-add-t13 c = search needs
-
-add-t15 : tie.Need-add-t15
-add-t15 c = search needs
-
 returns-6 : tie.Need-returns-6
 unfolding predeclaredCode
 returns-6 c = simp (lt-ltb _ _ (c .before .before .before .before .if1 .left), lt-ltb _ _ (c .before .before .before .if2 .left), lt-ltb _ _ (c .before .before .if3 .left), le-leb _ _ (c .before .if4 .left), le-leb _ _ (c .if5 .left))
@@ -42,4 +33,4 @@ returns-6 c = simp (lt-ltb _ _ (c .before .before .before .before .if1 .left), l
 pub predeclared-code-spec : {M : Type 1} → statement M
 predeclared-code-spec =
     tie.close
-    (tie.spec returns returns-2 returns-3 returns-4 returns-5 mul-t12 add-t13 add-t15 returns-6)
+    (tie.spec returns returns-2 returns-3 returns-4 returns-5 (search needs) (search needs) (search needs) returns-6)

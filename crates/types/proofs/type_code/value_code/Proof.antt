@@ -14,15 +14,9 @@ returns-2 : tie.Need-returns-2
 unfolding valueCode
 returns-2 c = simp (lt-ltb _ _ (c .before .if1 .left), le-ltb _ _ (c .if2 .taken))
 
-mul-t8 : tie.Need-mul-t8
-mul-t8 c = search needs
-
-add-t9 : tie.Need-add-t9
-add-t9 c = search needs
-
 returns-3 : tie.Need-returns-3
 unfolding valueCode
 returns-3 c = simp (lt-ltb _ _ (c .before .if1 .left), lt-ltb _ _ (c .if2 .left))
 
 pub value-code-spec : {M : Type 1} → statement M
-value-code-spec = tie.close (tie.spec returns returns-2 mul-t8 add-t9 returns-3)
+value-code-spec = tie.close (tie.spec returns returns-2 (search needs) (search needs) returns-3)

@@ -7,7 +7,7 @@ use native.Mathlib.Omega.{arith}
 use borrow.Author.Needs.{needs}
 use lib.ListN.{length}
 use Rattle.worksheet.specs.declared.sheet.Sheet.{Sheet}
-use Rattle.worksheet.specs.claims.Room.{enoughBytes}
+use Rattle.worksheet.specs.private.Sheet.{enoughBytes}
 use Rattle.rules.proofs.Records.{arguments-few}
 use Rattle.worksheet.proofs.Conversions.{Leaves, leave-same, leave-line, leave-none}
 use Rattle.worksheet.proofs.one_call.convert.Statement.{statement}
@@ -37,11 +37,12 @@ shared-slice-read-if1 c = search needs
 
 cast-line : tie.Need-cast-line Inv-loop μ-loop
 cast-line c =
+    let asked = c .before .before .before .before .before .before in
     omega (
       arith,
-      c .before .before .before .before .before .before .pre .taken,
+      asked .pre .taken,
       arguments-few
-          (c .before .before .before .before .before .before .args .rule),
+          (asked .args .rule),
     )
 
 line-requires : tie.Need-line-requires Inv-loop μ-loop

@@ -1,16 +1,25 @@
--- `type_call` meets its contract: what `call_of` answers for the operands is what the definition concludes of them, and the lines and
--- the result are laws of proofs/Calls.antt.
+-- `type_call` meets its contract: what the call comes to is what the definition concludes of its operands, by the laws of
+-- proofs/Calls.antt.
 -- Assumes nothing.
 use mathlib.Core.Path.{_≡_, sym, ap, _∙_}
+use Prim.Native.Nat.{_<_}
 use native.Mathlib.Omega.{arith}
-use borrow.Author.Needs.{needs}
 use lib.ListN.{length}
-use Rattle.lists.specs.ChosenPaper.{chosenPaper}
+use Rattle.calls.specs.OutcomePaper.{outcomePaper}
 use Rattle.machine.specs.Machine.{mostOperands}
-use Rattle.worksheet.proofs.CallFacts.{rule-takes, refusal-within}
-use Rattle.worksheet.proofs.Calls.{part-length, conversion-room, line-room, call-refused, call-ruled}
+use Rattle.worksheet.proofs.CallFacts.{rule-takes}
+use Rattle.worksheet.proofs.Calls.{conversion-room, line-room, operand-here, call-miscounted, call-none-after, call-none-concrete, call-ruled}
+use borrow.Author.Needs.{needs}
 use Rattle.worksheet.proofs.one_call.type_call.Statement.{statement}
 use Rattle.worksheet.proofs.one_call.type_call.Tie as tie
+
+-- the operand after which no rule is left is one of the call's
+here : (c : tie.After-known-told) → c .before .k .given .0 .0 < c .before .before .before .before .before .before .before .before .args .count
+here c =
+    let start = c .before .before .before .before .before .before .before .before in
+    operand-here (start .args .function) (start .args .count) (start .args .at) (start .args .past) (start .args .switch) (start .args .stack)
+    (start .args .sheet) (start .pre .enough) (c .before .k .given .0 .0)
+    (sym (ap outcomePaper (c .before .k .given .1)) ∙ c .before .before .before .outcome-of .ensures)
 
 sub-from : tie.Need-sub-from
 sub-from c = search needs
@@ -22,41 +31,51 @@ part-operands-start : tie.Need-part-operands-start
 part-operands-start c = search needs
 
 part-operands-end : tie.Need-part-operands-end
-part-operands-end c =
-    let start = c .before .before .before in
+part-operands-end c = let start = c .before .before .before in
     let n : length (start .args .stack .types) ≡ mostOperands = search needs in
     omega (arith, start .pre .bounded)
 
-call-of-requires : tie.Need-call-of-requires
-call-of-requires c κs = search needs
+outcome-of-requires : tie.Need-outcome-of-requires
+outcome-of-requires c κs = search needs
 
-enum-known-answer : tie.Need-enum-known-answer
-enum-known-answer c = search needs
+enum-told : tie.Need-enum-told
+enum-told c = search needs
 
-place-requires : tie.Need-place-requires
-place-requires c κs =
-    let start = c .before .before .before .before .before .before .before .before in
-    refusal-within _ _ _ _ _ _ (sym (c .before .before .before .call-of .ensures) ∙ ap chosenPaper (c .before .answer .given .1))
-    (omega (
-      arith,
-      part-length (start .args .stack .types) (start .args .stack .top) (start .args .count) (start .pre .enough),
-      start .pre .bounded,
-      start .pre .enough,
-    ))
+refused-requires : tie.Need-refused-requires
+refused-requires c κs = search needs
 
-enum-known-answer-2 : tie.Need-enum-known-answer-2
-enum-known-answer-2 c = search needs
+enum-known-k : tie.Need-enum-known-k
+enum-known-k c = search needs
+
+add-operand : tie.Need-add-operand
+add-operand c = omega (arith, here c)
+
+mul-start : tie.Need-mul-start
+mul-start c = omega (arith, here c)
+
+array-read-start : tie.Need-array-read-start
+array-read-start c = omega (arith, here c)
+
+refused-requires-2 : tie.Need-refused-requires-2
+refused-requires-2 c κs = search needs
+
+enum-told-2 : tie.Need-enum-told-2
+enum-told-2 c = search needs
+
+refused-requires-3 : tie.Need-refused-requires-3
+refused-requires-3 c κs = search needs
+
+enum-known-chosen : tie.Need-enum-known-chosen
+enum-known-chosen c = search needs
 
 convert-requires : tie.Need-convert-requires
-convert-requires c κs =
-    let start = c .before .before .before .before .before .before .before .before .before in
+convert-requires c κs = let start = c .before .before .before .before .before .before .before .before .before in
     conversion-room (start .args .count) _ (start .pre)
-    (rule-takes _ _ _ (c .before .before .answer2 .given .0 .0)
-    (sym (c .before .before .before .before .call-of .ensures) ∙ ap chosenPaper (c .before .before .answer2 .given .1)))
+    (rule-takes _ _ _ (c .before .before .chosen .given .0 .0)
+    (sym (ap outcomePaper (c .before .before .chosen .given .1)) ∙ c .before .before .before .before .outcome-of .ensures))
 
 line-requires : tie.Need-line-requires
-line-requires c κs =
-    let start = c .before .before .before .before .before .before .before .before .before .before in
+line-requires c κs = let start = c .before .before .before .before .before .before .before .before .before .before in
     line-room (start .args .count) (start .args .stack) _ _ _ (start .pre) (c .convert .ensures)
 
 cut-requires : tie.Need-cut-requires
@@ -66,17 +85,26 @@ push-requires : tie.Need-push-requires
 push-requires c κs = search needs
 
 returns : tie.Need-returns
-returns c =
-    call-refused _ _ _ _ _ _ _ _ _ _
-    (sym (c .before .before .before .before .call-of .ensures) ∙ ap chosenPaper (c .before .before .answer .given .1))
-    (c .place .ensures)
+returns c = rw (c .refused .ensures)
+    (call-miscounted _ _ _ _ _ _ _ (sym (ap outcomePaper (c .before .enum-told .given .1)) ∙ c .before .before .before .outcome-of .ensures))
 
 returns-2 : tie.Need-returns-2
 returns-2 c =
-    call-ruled _ _ _ _ _ _ _ (c .before .before .before .before .before .before .answer2 .given .0 .0) _ _ _ _
+    let there = c .before .before .before .before .before .before .before .before .before in
+    let told = c .before .before in
+    rw (c .refused2 .ensures)
+    (call-none-after _ _ _ _ _ _ _ (there .pre .enough) (told .k .given .0 .0)
+    (sym (ap outcomePaper (told .k .given .1)) ∙ told .before .before .outcome-of .ensures))
+
+returns-3 : tie.Need-returns-3
+returns-3 c = rw (c .refused3 .ensures)
+    (call-none-concrete _ _ _ _ _ _ _ (sym (ap outcomePaper (c .before .enum-told2 .given .1)) ∙ c .before .before .before .outcome-of .ensures))
+
+returns-4 : tie.Need-returns-4
+returns-4 c = let told = c .before .before .before .before .before .before in
+    call-ruled _ _ _ _ _ _ _ (told .chosen .given .0 .0) _ _ _ _
     (c .before .before .before .convert .ensures) (c .before .before .line .ensures) (c .before .cut .ensures) (c .push .ensures)
-    (sym (c .before .before .before .before .before .before .before .before .call-of .ensures)
-    ∙ ap chosenPaper (c .before .before .before .before .before .before .answer2 .given .1))
+    (sym (ap outcomePaper (told .chosen .given .1)) ∙ told .before .before .outcome-of .ensures)
 
 pub type-call-spec : {M : Type 1} → statement M
 type-call-spec =
@@ -86,13 +114,22 @@ type-call-spec =
     sub-operands
     part-operands-start
     part-operands-end
-    call-of-requires
-    enum-known-answer
-    place-requires
-    enum-known-answer-2
+    outcome-of-requires
+    enum-told
+    refused-requires
+    enum-known-k
+    add-operand
+    mul-start
+    array-read-start
+    refused-requires-2
+    enum-told-2
+    refused-requires-3
+    enum-known-chosen
     convert-requires
     line-requires
     cut-requires
     push-requires
     returns
-    returns-2)
+    returns-2
+    returns-3
+    returns-4)

@@ -8,7 +8,7 @@ use borrow.Author.Tests.{lt-ltb, le-ltb}
 use borrow.Author.Needs.{needs}
 use lib.ListN.{length, take, drop, set, getD}
 use lib.Seq.{length-take-le}
-use Rattle.worksheet.specs.claims.Room.{enoughBytes}
+use Rattle.worksheet.specs.private.Sheet.{enoughBytes}
 use Rattle.worksheet.proofs.Written.{copy-more, copied-length, placed-short, placed-fits}
 use Rattle.worksheet.proofs.sheet.copy_out.Statement.{statement}
 use Rattle.worksheet.proofs.sheet.copy_out.Tie as tie

@@ -16,8 +16,9 @@ element-copy-out-result c = search needs
 
 copy-out-requires : tie.Need-copy-out-requires
 copy-out-requires c κs =
-    c .before .before .before .before .before .before .before .before .pre
-    (c .before .before .before .before .before .enum-told .given .1)
+    let there = c .before .before .before .before .before in
+    there .before .before .before .pre
+    (there .enum-told .given .1)
 
 enum-known-room : tie.Need-enum-known-room
 enum-known-room c = search needs
@@ -35,10 +36,11 @@ same-length c = search needs
 
 returns-2 : tie.Need-returns-2
 returns-2 c =
-    let start = c .before .before .before .before .before .before .before .before .before .before .before .before .before .before in
-    let copied = c .before .before .before .before .before .copy-out .ensures in
+    let there = c .before .before .before .before .before in
+    let start = there .before .before .before .before .before .before .before .before .before in
+    let copied = there .copy-out .ensures in
     root-short (start .args .root) (start .args .out .now)
-    (c .before .before .before .before .before .before .before .before .before .before .before .enum-told .given .1) _ _ (copied .0)
+    (there .before .before .before .before .before .before .enum-told .given .1) _ _ (copied .0)
     (copied .1) _ (c .before .room .given .1)
 
 same-length-2 : tie.Need-same-length-2
@@ -46,10 +48,11 @@ same-length-2 c = search needs
 
 returns-3 : tie.Need-returns-3
 returns-3 c =
-    let start = c .before .before .before .before .before .before .before .before .before .before .before .before .before in
+    let there = c .before .before .before .before .before .before .before .before .before .before in
+    let start = there .before .before .before in
     let copied = c .before .before .before .before .copy-out .ensures in
     root-typed (start .args .root) (start .args .out .now)
-    (c .before .before .before .before .before .before .before .before .before .before .enum-told .given .1) _ _ (copied .0)
+    (there .enum-told .given .1) _ _ (copied .0)
     (copied .1) (c .enum-told2 .given .1)
 
 pub answer-spec : {M : Type 1} → statement M

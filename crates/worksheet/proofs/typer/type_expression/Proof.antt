@@ -28,16 +28,18 @@ new-requires-2 c κs = search needs
 
 type-node-requires : tie.Need-type-node-requires
 type-node-requires c κs =
-    let start = c .before .before .before .before .before .before .before .args in
+    let asked = c .before .before .before .before .before .before .before in
+    let start = asked .args in
     root-there (start .switch) _ (start .out .now) _
     (sym (ap readPaper (c .before .before .enum-told .given .1)) ∙ c .before .before .before .before .read-expression .ensures) _ _
     (c .before .new .ensures) (c .new2 .ensures)
 
 answer-requires : tie.Need-answer-requires
 answer-requires c κs =
-    let start = c .before .before .before .before .before .before .before .before .before .args in
+    let asked = c .before .before .before .before .before .before in
+    let start = asked .before .before .before .args in
     root-fits (start .switch) _ (start .out .now) _
-    (sym (ap readPaper (c .before .before .before .before .enum-told .given .1)) ∙ c .before .before .before .before .before .before .read-expression .ensures) _ _
+    (sym (ap readPaper (c .before .before .before .before .enum-told .given .1)) ∙ asked .read-expression .ensures) _ _
     (c .before .before .before .new .ensures) (c .before .before .new2 .ensures) _ (c .before .type-node .ensures)
 
 same-length : tie.Need-same-length
@@ -45,10 +47,11 @@ same-length c = search needs
 
 returns-2 : tie.Need-returns-2
 returns-2 c =
-    let start = c .before .before .before .before .before .before .before .before .before .before .before .before .args in
-    let made = root-answer (start .switch) _ (start .out .now) _ (sym (ap readPaper (c .before .before .before .before .before .before .before .enum-told .given .1))
-    ∙ c .before .before .before .before .before .before .before .before .before .read-expression .ensures) _ _
-    (c .before .before .before .before .before .before .new .ensures) (c .before .before .before .before .before .new2 .ensures) _
+    let asked = c .before .before .before .before .before in
+    let start = asked .before .before .before .before .before .before .before .args in
+    let made = root-answer (start .switch) _ (start .out .now) _ (sym (ap readPaper (asked .before .before .enum-told .given .1))
+    ∙ asked .before .before .before .before .read-expression .ensures) _ _
+    (asked .before .new .ensures) (asked .new2 .ensures) _
     (c .before .before .before .before .type-node .ensures) in
     (c .before .before .answer .ensures .0 ∙ made .0, c .before .before .answer .ensures .1 ∙ made .1)
 

@@ -6,14 +6,8 @@ use borrow.Author.Needs.{needs}
 use Rattle.lists.proofs.any_overload_set.AnyOverloadSet.from_list.Statement.{statement}
 use Rattle.lists.proofs.any_overload_set.AnyOverloadSet.from_list.Tie as tie
 
-checked-requires : tie.Need-checked-requires
-checked-requires c κs = search needs
-
-list-answer-requires : tie.Need-list-answer-requires
-list-answer-requires c κs = search needs
-
 returns : tie.Need-returns
 returns c = c .list-answer .ensures ∙ ap ofList (c .before .checked .ensures)
 
 pub from-list-spec : {M : Type 1} → statement M
-from-list-spec = tie.close (tie.spec checked-requires list-answer-requires returns)
+from-list-spec = tie.close (tie.spec (search needs) (search needs) returns)

@@ -5,19 +5,13 @@ use Rattle.lists.specs.List.{listArg}
 use Rattle.lists.proofs.list.List.arg.Statement.{statement}
 use Rattle.lists.proofs.list.List.arg.Tie as tie
 
-refused-requires : tie.Need-refused-requires
-refused-requires c κs = search needs
-
 returns : tie.Need-returns
 unfolding listArg
 returns c = simp (lt-leb _ _ (c .before .if1 .taken)) (c .refused .ensures)
-
-step-requires : tie.Need-step-requires
-step-requires c κs = search needs
 
 returns-2 : tie.Need-returns-2
 unfolding listArg
 returns-2 c = simp (le-leb _ _ (c .before .if1 .left)) (c .step .ensures)
 
 pub arg-spec : {M : Type 1} → statement M
-arg-spec = tie.close (tie.spec refused-requires returns step-requires returns-2)
+arg-spec = tie.close (tie.spec (search needs) returns (search needs) returns-2)

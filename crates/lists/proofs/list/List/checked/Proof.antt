@@ -10,7 +10,7 @@ use borrow.Author.Needs.{needs}
 use borrow.Author.Tests.{not-true, not-false, le-leb, lt-leb}
 use Rattle.scalars.specs.Mask.{every, padded}
 use Rattle.rules.specs.Rule.{blankRule, signatureOf, ruleOf, knownRule, shortRule}
-use Rattle.lists.specs.List.{held, signatures, cleanList, acceptedList}
+use Rattle.lists.specs.List.{mostRules, held, signatures, cleanList, acceptedList}
 use Rattle.lists.specs.declared.list.List.{List}
 use Rattle.rules.specs.declared.rule.Rule.{Rule}
 use Rattle.scalars.proofs.Masks.{mapped-long}
@@ -20,12 +20,12 @@ use Rattle.lists.proofs.list.List.checked.Statement.{statement}
 use Rattle.lists.proofs.list.List.checked.Tie as tie
 
 -- the array of rules has 63 entries
-long : (c : tie.Start) → length (c .args .self .rules) ≡ 63
+long : (c : tie.Start) → length (c .args .self .rules) ≡ mostRules
 long c = search (needs, mapped-long)
 
 -- what each test says of the List
 known : (c : tie.After-all-known) → every knownRule (held (c .before .before .before .args .self)) ≡ c .all-known .result
-known c = sym (c .all-known .ensures ∙ ap (every knownRule) (take-min _ _ 63 (long (c .before .before .before)) (c .before .held .ensures)))
+known c = sym (c .all-known .ensures ∙ ap (every knownRule) (take-min _ _ mostRules (long (c .before .before .before)) (c .before .held .ensures)))
 
 all-known : (c : tie.Else1) → every knownRule (held (c .before .before .before .before .args .self)) ≡ true
 all-known c = known (c .before) ∙ not-false _ (c .if1 .left)
@@ -34,80 +34,55 @@ all-within : (c : tie.Else2) → ltb (c .before .before .before .before .before 
 all-within c = sym (c .before .within .ensures) ∙ not-false _ (c .if2 .left)
 
 short : (c : tie.After-all-short) → every shortRule (held (c .before .before .before .before .before .before .before .before .args .self)) ≡ c .all-short .result
-short c = sym (c .all-short .ensures ∙ ap (every shortRule) (take-min _ _ 63 (long (c .before .before .before .before .before .before .before .before)) (c .before .before .before .before .before .before .held .ensures)))
-
-held-requires : tie.Need-held-requires
-held-requires c κs = search needs
-
-all-known-requires : tie.Need-all-known-requires
-all-known-requires c κs = search needs
-
-refused-requires : tie.Need-refused-requires
-refused-requires c κs = search needs
+short c =
+    let there = c .before .before .before .before .before .before in
+    sym (c .all-short .ensures ∙ ap (every shortRule) (take-min _ _ mostRules (long (there .before .before)) (there .held .ensures)))
 
 returns : tie.Need-returns
 returns c = c .refused .ensures ∙ checked-by _ false _ _ _ (known (c .before .before) ∙ not-true _ (c .before .if1 .taken)) refl refl refl
 
-within-requires : tie.Need-within-requires
-within-requires c κs = search needs
-
-refused-requires-2 : tie.Need-refused-requires-2
-refused-requires-2 c κs = search needs
-
 returns-2 : tie.Need-returns-2
 returns-2 c = c .refused2 .ensures ∙ checked-by _ true false _ _ (all-known (c .before .before .before)) (sym (c .before .before .within .ensures) ∙ not-true _ (c .before .if2 .taken)) refl refl
-
-refused-requires-3 : tie.Need-refused-requires-3
-refused-requires-3 c κs = search needs
 
 returns-3 : tie.Need-returns-3
 returns-3 c = c .refused3 .ensures ∙ checked-by _ true true false _ (all-known (c .before .before .before .before)) (all-within (c .before .before)) (lt-leb _ _ (c .before .if3 .taken)) refl
 
-all-short-requires : tie.Need-all-short-requires
-all-short-requires c κs = search needs
-
-refused-requires-4 : tie.Need-refused-requires-4
-refused-requires-4 c κs = search needs
-
 returns-4 : tie.Need-returns-4
 returns-4 c =
+    let there = c .before .before .before .before .before .before in
     c .refused4 .ensures
-    ∙ checked-by _ true true true false (all-known (c .before .before .before .before .before .before)) (all-within (c .before .before .before .before)) (le-leb _ _ (c .before .before .before .if3 .left)) (short (c .before .before) ∙ not-true _ (c .before .if4 .taken))
-
-cleaned-requires : tie.Need-cleaned-requires
-cleaned-requires c κs = search needs
-
-accepted-requires : tie.Need-accepted-requires
-accepted-requires c κs = search needs
+    ∙ checked-by _ true true true false (all-known (there)) (all-within (c .before .before .before .before)) (le-leb _ _ (c .before .before .before .if3 .left)) (short (c .before .before) ∙ not-true _ (c .before .if4 .taken))
 
 -- the records that `cleaned` gives are the clean List's
 clean : (c : tie.After-cleaned) → _≡_ {A = List} (record { rules = c .cleaned .result; len = c .before .before .before .before .before .before .before .before .before .before .args .self .len; members = c .before .before .before .before .before .before .before .before .before .before .args .self .members }) (cleanList (c .before .before .before .before .before .before .before .before .before .before .args .self))
 unfolding cleanList signatures
 clean c =
-    ap (λ (rs : L.List Rule). record { rules = rs; len = c .before .before .before .before .before .before .before .before .before .before .args .self .len; members = c .before .before .before .before .before .before .before .before .before .before .args .self .members })
-    (c .cleaned .ensures ∙ ap (λ (rs : L.List Rule). padded 63 blankRule (map ruleOf (map signatureOf rs))) (take-min _ _ 63 (long (c .before .before .before .before .before .before .before .before .before .before)) (c .before .before .before .before .before .before .before .before .held .ensures)))
+    let there = c .before .before .before .before .before .before .before .before in
+    ap (λ (rs : L.List Rule). record { rules = rs; len = there .before .before .args .self .len; members = there .before .before .args .self .members })
+    (c .cleaned .ensures ∙ ap (λ (rs : L.List Rule). padded mostRules blankRule (map ruleOf (map signatureOf rs))) (take-min _ _ mostRules (long (there .before .before)) (there .held .ensures)))
 
 returns-5 : tie.Need-returns-5
 returns-5 c =
+    let there = c .before .before .before .before .before in
     c .accepted .ensures ∙ ap acceptedList (clean (c .before))
-    ∙ checked-by _ true true true true (all-known (c .before .before .before .before .before .before .before)) (all-within (c .before .before .before .before .before)) (le-leb _ _ (c .before .before .before .before .if3 .left)) (short (c .before .before .before) ∙ not-false _ (c .before .before .if4 .left))
+    ∙ checked-by _ true true true true (all-known (there .before .before)) (all-within (there)) (le-leb _ _ (c .before .before .before .before .if3 .left)) (short (c .before .before .before) ∙ not-false _ (c .before .before .if4 .left))
 
 pub checked-spec : {M : Type 1} → statement M
 checked-spec =
     tie.close
     (tie.spec
-    held-requires
-    all-known-requires
-    refused-requires
+    (search needs)
+    (search needs)
+    (search needs)
     returns
-    within-requires
-    refused-requires-2
+    (search needs)
+    (search needs)
     returns-2
-    refused-requires-3
+    (search needs)
     returns-3
-    all-short-requires
-    refused-requires-4
+    (search needs)
+    (search needs)
     returns-4
-    cleaned-requires
-    accepted-requires
+    (search needs)
+    (search needs)
     returns-5)

@@ -6,12 +6,6 @@ use Rattle.lists.specs.List.{fromRules, checkedList}
 use Rattle.lists.proofs.list.List.from_rules.Statement.{statement}
 use Rattle.lists.proofs.list.List.from_rules.Tie as tie
 
-len-to-full-mask-requires : tie.Need-len-to-full-mask-requires
-len-to-full-mask-requires c κs = search needs
-
-checked-requires : tie.Need-checked-requires
-checked-requires c κs = search needs
-
 returns : tie.Need-returns
 unfolding fromRules
 returns c =
@@ -19,4 +13,4 @@ returns c =
     ∙ ap (λ (m : ℕ). checkedList (record { rules = c .before .before .args .rules; len = c .before .before .args .n; members = m })) (c .before .len-to-full-mask .ensures)
 
 pub from-rules-spec : {M : Type 1} → statement M
-from-rules-spec = tie.close (tie.spec len-to-full-mask-requires checked-requires returns)
+from-rules-spec = tie.close (tie.spec (search needs) (search needs) returns)

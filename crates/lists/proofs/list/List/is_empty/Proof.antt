@@ -4,7 +4,8 @@ use mathlib.Core.Path.{_≡_, sym, ap, _∙_}
 use native.Mathlib.Omega.{arith}
 use lib.ListN.{length}
 use borrow.Author.Needs.{needs}
-use Rattle.lists.specs.List.{listEmpty}
+use Rattle.scalars.specs.Paper.{unused}
+use Rattle.lists.specs.List.{mostRules, listEmpty}
 use Rattle.rules.specs.Verdict.{emptyOf}
 use mathlib.Core.List.{[], _∷_}
 use Rattle.scalars.proofs.Masks.{mapped-long}
@@ -14,34 +15,27 @@ use Rattle.lists.proofs.list.List.is_empty.Statement.{statement}
 use Rattle.lists.proofs.list.List.is_empty.Tie as tie
 
 -- the array of rules has 63 entries
-long : (c : tie.Start) → length (c .args .self .rules) ≡ 63
+long : (c : tie.Start) → length (c .args .self .rules) ≡ mostRules
 long c = search (needs, mapped-long)
-
-checked-requires : tie.Need-checked-requires
-checked-requires c κs = search needs
-
-enum-known-verdict : tie.Need-enum-known-verdict
-enum-known-verdict c = search needs
-
-enum-told : tie.Need-enum-told
-enum-told c = search needs
 
 returns : tie.Need-returns
 unfolding listEmpty
 returns c =
-    sym (ap emptyOf (listing-none (c .before .before .before .before .before .args .self) (c .if1 .taken)))
-    ∙ on-accepted _ (c .before .before .before .before .checked .result) (c .before .before .before .before .checked .ensures) _ (255 ∷ []) (c .before .before .enum-told .given .1)
+    let there = c .before .before .before .before .before in
+    sym (ap emptyOf (listing-none (there .args .self) (c .if1 .taken)))
+    ∙ on-accepted _ (c .before .before .before .before .checked .result) (c .before .before .before .before .checked .ensures) _ (unused ∷ []) (c .before .before .enum-told .given .1)
 
 returns-2 : tie.Need-returns-2
 unfolding listEmpty
-returns-2 c = on-refused _ (c .before .before .before .checked .result) (c .before .before .before .checked .ensures) _ (255 ∷ []) (c .before .verdict .given .1)
+returns-2 c = on-refused _ (c .before .before .before .checked .result) (c .before .before .before .checked .ensures) _ (unused ∷ []) (c .before .verdict .given .1)
 
 returns-3 : tie.Need-returns-3
 unfolding listEmpty
 returns-3 c =
-    tested-some (c .before .before .before .before .before .args .self) (c .before .before .before .before .checked .result) (c .before .before .before .before .checked .ensures) (c .before .before .enum-told .given .1) (long (c .before .before .before .before .before)) (omega arith)
-    ∙ on-accepted _ (c .before .before .before .before .checked .result) (c .before .before .before .before .checked .ensures) _ (255 ∷ []) (c .before .before .enum-told .given .1)
+    let there = c .before .before .before .before .before in
+    tested-some (there .args .self) (c .before .before .before .before .checked .result) (c .before .before .before .before .checked .ensures) (c .before .before .enum-told .given .1) (long (there)) (omega arith)
+    ∙ on-accepted _ (c .before .before .before .before .checked .result) (c .before .before .before .before .checked .ensures) _ (unused ∷ []) (c .before .before .enum-told .given .1)
 
 pub is-empty-spec : {M : Type 1} → statement M
 is-empty-spec =
-    tie.close (tie.spec checked-requires enum-known-verdict enum-told returns returns-2 returns-3)
+    tie.close (tie.spec (search needs) (search needs) (search needs) returns returns-2 returns-3)

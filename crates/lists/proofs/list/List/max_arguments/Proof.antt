@@ -2,7 +2,8 @@
 use mathlib.Core.Path.{_≡_, ap, _∙_}
 use lib.ListN.{length}
 use borrow.Author.Needs.{needs}
-use Rattle.lists.specs.List.{listCount}
+use Rattle.scalars.specs.Paper.{unused}
+use Rattle.lists.specs.List.{mostRules, listCount}
 use Rattle.rules.specs.Verdict.{countOf}
 use mathlib.Core.List.{[], _∷_}
 use Rattle.scalars.proofs.Masks.{mapped-long}
@@ -11,39 +12,28 @@ use Rattle.lists.proofs.list.List.max_arguments.Statement.{statement}
 use Rattle.lists.proofs.list.List.max_arguments.Tie as tie
 
 -- the array of rules has 63 entries
-long : (c : tie.Start) → length (c .args .self .rules) ≡ 63
+long : (c : tie.Start) → length (c .args .self .rules) ≡ mostRules
 long c = search (needs, mapped-long)
-
-checked-requires : tie.Need-checked-requires
-checked-requires c κs = search needs
-
-enum-known-verdict : tie.Need-enum-known-verdict
-enum-known-verdict c = search needs
-
-enum-told : tie.Need-enum-told
-enum-told c = search needs
-
-longest-requires : tie.Need-longest-requires
-longest-requires c κs = tt
 
 returns : tie.Need-returns
 unfolding listCount
-returns c = on-refused _ (c .before .before .before .before .checked .result) (c .before .before .before .before .checked .ensures) _ (255 ∷ []) (c .before .verdict .given .1)
+returns c = on-refused _ (c .before .before .before .before .checked .result) (c .before .before .before .before .checked .ensures) _ (unused ∷ []) (c .before .verdict .given .1)
 
 returns-2 : tie.Need-returns-2
 unfolding listCount
 returns-2 c =
+    let there = c .before .before .before .before .before in
     c .longest .ensures
-    ∙ ap countOf (tested-listing _ (c .before .before .before .before .checked .result) (c .before .before .before .before .checked .ensures) (c .before .enum-told .given .1) (long (c .before .before .before .before .before)))
-    ∙ on-accepted _ (c .before .before .before .before .checked .result) (c .before .before .before .before .checked .ensures) _ (255 ∷ []) (c .before .enum-told .given .1)
+    ∙ ap countOf (tested-listing _ (c .before .before .before .before .checked .result) (c .before .before .before .before .checked .ensures) (c .before .enum-told .given .1) (long (there)))
+    ∙ on-accepted _ (c .before .before .before .before .checked .result) (c .before .before .before .before .checked .ensures) _ (unused ∷ []) (c .before .enum-told .given .1)
 
 pub max-arguments-spec : {M : Type 1} → statement M
 max-arguments-spec =
     tie.close
     (tie.spec
-    checked-requires
-    enum-known-verdict
-    enum-told
-    longest-requires
+    (search needs)
+    (search needs)
+    (search needs)
+    (search needs)
     returns
     returns-2)

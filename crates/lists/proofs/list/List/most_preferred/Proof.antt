@@ -3,7 +3,7 @@
 use mathlib.Core.Path.{_≡_, ap, _∙_}
 use lib.ListN.{length}
 use borrow.Author.Needs.{needs}
-use Rattle.lists.specs.List.{listPreferred, preferredOf}
+use Rattle.lists.specs.List.{mostRules, listPreferred, preferredOf}
 use Rattle.lists.specs.ChosenPaper.{noChoice}
 use Rattle.scalars.proofs.Masks.{mapped-long}
 use Rattle.lists.proofs.Verdicts.{on-refused, on-accepted, tested-valid, tested-entries}
@@ -11,17 +11,8 @@ use Rattle.lists.proofs.list.List.most_preferred.Statement.{statement}
 use Rattle.lists.proofs.list.List.most_preferred.Tie as tie
 
 -- the array of rules has 63 entries
-long : (c : tie.Start) → length (c .args .self .rules) ≡ 63
+long : (c : tie.Start) → length (c .args .self .rules) ≡ mostRules
 long c = search (needs, mapped-long)
-
-checked-requires : tie.Need-checked-requires
-checked-requires c κs = search needs
-
-enum-known-verdict : tie.Need-enum-known-verdict
-enum-known-verdict c = search needs
-
-enum-told : tie.Need-enum-told
-enum-told c = search needs
 
 first-requires : tie.Need-first-requires
 first-requires c κs = tested-valid _ (c .before .before .before .checked .result) (c .before .before .before .checked .ensures) (c .enum-told .given .1) (long (c .before .before .before .before))
@@ -33,17 +24,18 @@ returns c = on-refused _ (c .before .before .before .before .checked .result) (c
 returns-2 : tie.Need-returns-2
 unfolding listPreferred
 returns-2 c =
+    let there = c .before .before .before .before .before in
     c .first .ensures
-    ∙ ap preferredOf (tested-entries _ (c .before .before .before .before .checked .result) (c .before .before .before .before .checked .ensures) (c .before .enum-told .given .1) (long (c .before .before .before .before .before)))
+    ∙ ap preferredOf (tested-entries _ (c .before .before .before .before .checked .result) (c .before .before .before .before .checked .ensures) (c .before .enum-told .given .1) (long (there)))
     ∙ on-accepted _ (c .before .before .before .before .checked .result) (c .before .before .before .before .checked .ensures) _ noChoice (c .before .enum-told .given .1)
 
 pub most-preferred-spec : {M : Type 1} → statement M
 most-preferred-spec =
     tie.close
     (tie.spec
-    checked-requires
-    enum-known-verdict
-    enum-told
+    (search needs)
+    (search needs)
+    (search needs)
     first-requires
     returns
     returns-2)

@@ -8,27 +8,11 @@ use Rattle.lists.proofs.Verdicts.{on-refused, on-accepted, tested-list}
 use Rattle.lists.proofs.list.List.step.Statement.{statement}
 use Rattle.lists.proofs.list.List.step.Tie as tie
 
-checked-requires : tie.Need-checked-requires
-checked-requires c κs = search needs
-
-enum-known-verdict : tie.Need-enum-known-verdict
-enum-known-verdict c = search needs
-
-refused-requires : tie.Need-refused-requires
-refused-requires c κs = search needs
-
-enum-told : tie.Need-enum-told
-enum-told c = search needs
-
-filter-requires : tie.Need-filter-requires
-filter-requires c κs = tt
-
-accepted-requires : tie.Need-accepted-requires
-accepted-requires c κs = search needs
-
 returns : tie.Need-returns
 unfolding listStep
-returns c = c .refused .ensures ∙ on-refused _ (c .before .before .before .before .before .checked .result) (c .before .before .before .before .before .checked .ensures) _ noListValues (c .before .before .verdict .given .1)
+returns c =
+    let there = c .before .before .before .before .before in
+    c .refused .ensures ∙ on-refused _ (there .checked .result) (there .checked .ensures) _ noListValues (c .before .before .verdict .given .1)
 
 returns-2 : tie.Need-returns-2
 unfolding listStep kept
@@ -44,11 +28,11 @@ pub step-spec : {M : Type 1} → statement M
 step-spec =
     tie.close
     (tie.spec
-    checked-requires
-    enum-known-verdict
-    refused-requires
-    enum-told
-    filter-requires
-    accepted-requires
+    (search needs)
+    (search needs)
+    (search needs)
+    (search needs)
+    (search needs)
+    (search needs)
     returns
     returns-2)

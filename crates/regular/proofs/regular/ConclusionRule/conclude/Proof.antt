@@ -1,102 +1,74 @@
 -- `ConclusionRule::conclude` meets its contract: a case for each of the ten.
 -- Assumes nothing.
-use Rattle.regular.specs.Regular.{concludedOf}
+use mathlib.Core.Path.{sym}
+use Rattle.regular.specs.private.Tested.{concludedFor}
 use borrow.Author.Needs.{needs}
 use Rattle.regular.proofs.regular.ConclusionRule.conclude.Statement.{statement}
 use Rattle.regular.proofs.regular.ConclusionRule.conclude.Tie as tie
 
-enum-told : tie.Need-enum-told
-enum-told c = search needs
-
-enum-told-2 : tie.Need-enum-told-2
-enum-told-2 c = search needs
-
-enum-told-3 : tie.Need-enum-told-3
-enum-told-3 c = search needs
-
-code-of-requires : tie.Need-code-of-requires
-code-of-requires c κs = search needs
-
-enum-told-4 : tie.Need-enum-told-4
-enum-told-4 c = search needs
-
-code-of-requires-2 : tie.Need-code-of-requires-2
-code-of-requires-2 c κs = search needs
-
-enum-told-5 : tie.Need-enum-told-5
-enum-told-5 c = search needs
-
-enum-told-6 : tie.Need-enum-told-6
-enum-told-6 c = search needs
-
-enum-told-7 : tie.Need-enum-told-7
-enum-told-7 c = search needs
-
-enum-told-8 : tie.Need-enum-told-8
-enum-told-8 c = search needs
-
-enum-told-9 : tie.Need-enum-told-9
-enum-told-9 c = search needs
-
-enum-told-10 : tie.Need-enum-told-10
-enum-told-10 c = search needs
-
 returns : tie.Need-returns
-unfolding concludedOf
-returns c = rw (c .enum-told .given .1)
+unfolding concludedFor
+returns c = rw (c .enum-told .given .1) (sym (c .before .before .pre))
 
 returns-2 : tie.Need-returns-2
-unfolding concludedOf
-returns-2 c = rw (c .enum-told2 .given .1)
+unfolding concludedFor
+returns-2 c = rw (c .before .enum-told2 .given .1) (c .to-inner .ensures)
 
 returns-3 : tie.Need-returns-3
-unfolding concludedOf
-returns-3 c = rw (c .before .enum-told3 .given .1) (c .code-of .ensures)
+unfolding concludedFor
+returns-3 c = rw (c .before .enum-told3 .given .1) (c .for-frexp-modf .ensures)
 
 returns-4 : tie.Need-returns-4
-unfolding concludedOf
-returns-4 c = rw (c .before .enum-told4 .given .1) (c .code-of2 .ensures)
+unfolding concludedFor
+returns-4 c = rw (c .before .enum-told4 .given .1) (c .for-frexp-modf2 .ensures)
 
 returns-5 : tie.Need-returns-5
-unfolding concludedOf
-returns-5 c = rw (c .enum-told5 .given .1)
+unfolding concludedFor
+returns-5 c = rw (c .before .enum-told5 .given .1) (c .to-inner2 .ensures)
 
 returns-6 : tie.Need-returns-6
-unfolding concludedOf
-returns-6 c = rw (c .enum-told6 .given .1)
+unfolding concludedFor
+returns-6 c = rw (c .before .enum-told6 .given .1) (c .to-inner3 .ensures)
 
 returns-7 : tie.Need-returns-7
-unfolding concludedOf
-returns-7 c = rw (c .enum-told7 .given .1)
+unfolding concludedFor
+returns-7 c = rw (c .before .enum-told7 .given .1) (c .to-inner4 .ensures)
 
 returns-8 : tie.Need-returns-8
-unfolding concludedOf
-returns-8 c = rw (c .enum-told8 .given .1)
+unfolding concludedFor
+returns-8 c = rw (c .before .enum-told8 .given .1) (c .to-inner5 .ensures)
 
 returns-9 : tie.Need-returns-9
-unfolding concludedOf
-returns-9 c = rw (c .enum-told9 .given .1)
+unfolding concludedFor
+returns-9 c = rw (c .before .enum-told9 .given .1) (c .to-inner6 .ensures)
 
 returns-10 : tie.Need-returns-10
-unfolding concludedOf
-returns-10 c = rw (c .enum-told10 .given .1)
+unfolding concludedFor
+returns-10 c = rw (c .before .enum-told10 .given .1) (c .to-inner7 .ensures)
 
 pub conclude-spec : {M : Type 1} → statement M
 conclude-spec =
     tie.close
     (tie.spec
-    enum-told
-    enum-told-2
-    enum-told-3
-    code-of-requires
-    enum-told-4
-    code-of-requires-2
-    enum-told-5
-    enum-told-6
-    enum-told-7
-    enum-told-8
-    enum-told-9
-    enum-told-10
+    (search needs)
+    (search needs)
+    (search needs)
+    (search needs)
+    (search needs)
+    (search needs)
+    (search needs)
+    (search needs)
+    (search needs)
+    (search needs)
+    (search needs)
+    (search needs)
+    (search needs)
+    (search needs)
+    (search needs)
+    (search needs)
+    (search needs)
+    (search needs)
+    (search needs)
     returns
     returns-2
     returns-3

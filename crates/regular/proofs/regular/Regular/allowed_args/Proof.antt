@@ -15,53 +15,43 @@ use borrow.Author.Needs.{needs}
 use Rattle.regular.proofs.regular.Regular.allowed_args.Statement.{statement}
 use Rattle.regular.proofs.regular.Regular.allowed_args.Tie as tie
 
-verdict-requires : tie.Need-verdict-requires
-verdict-requires c κs = search needs
-
-enum-known-why : tie.Need-enum-known-why
-enum-known-why c = search needs
-
-no-types-requires : tie.Need-no-types-requires
-no-types-requires c κs = search needs
-
 returns : tie.Need-returns
 unfolding regularAllowed
 returns c = rw (sym (c .before .before .before .before .verdict .ensures) ∙ ap verdictPaper (c .before .before .why .given .1)) (c .no-types .ensures)
 
-enum-told : tie.Need-enum-told
-enum-told c = search needs
-
-cast-if1 : tie.Need-cast-if1
-cast-if1 c = search needs
-
-no-codes-requires : tie.Need-no-codes-requires
-no-codes-requires c κs = search needs
-
 returns-2 : tie.Need-returns-2
 unfolding regularAllowed acceptedTypes
-returns-2 c = rw (sym (c .before .before .before .before .before .verdict .ensures) ∙ ap verdictPaper (c .before .before .before .enum-told .given .1), le-ltb _ _ (c .before .if1 .taken)) (ap (λ (a : List ℕ). accepted (0 ∷ a)) (c .no-codes .ensures))
+returns-2 c =
+    let there = c .before .before .before .before .before in
+    rw (sym (there .verdict .ensures) ∙ ap verdictPaper (c .before .before .before .enum-told .given .1), le-ltb _ _ (c .before .if1 .taken)) (ap (λ (a : List ℕ). accepted (0 ∷ a)) (c .no-codes .ensures))
 
 codes-requires : tie.Need-codes-requires
-codes-requires c κs = accepted-known (c .before .before .before .before .before .args .self) (sym (c .before .before .before .before .verdict .ensures) ∙ ap verdictPaper (c .before .before .enum-told .given .1))
+codes-requires c κs =
+    let there = c .before .before .before .before .before in
+    accepted-known (there .args .self) (sym (c .before .before .before .before .verdict .ensures) ∙ ap verdictPaper (c .before .before .enum-told .given .1))
 
 cast-t11 : tie.Need-cast-t11
-cast-t11 c = omega (arith, found-count (c .before .before .before .before .before .before .before .before .args .self) (c .before .before .codes .ensures), codes-few (c .before .before .before .before .before .before .before .before .args .self))
+cast-t11 c =
+    let there = c .before .before .before .before .before .before .before .before in
+    omega (arith, found-count (there .args .self) (c .before .before .codes .ensures), codes-few (there .args .self))
 
 returns-3 : tie.Need-returns-3
 unfolding regularAllowed acceptedTypes
-returns-3 c = rw (sym (c .before .before .before .before .before .before .before .verdict .ensures) ∙ ap verdictPaper (c .before .before .before .before .before .enum-told .given .1), lt-ltb _ _ (c .before .before .before .if1 .left)) (ap₂ (λ (n : ℕ) (a : List ℕ). accepted (n ∷ a)) (found-count (c .before .before .before .before .before .before .before .before .args .self) (c .before .before .codes .ensures)) (found-codes (c .before .before .before .before .before .before .before .before .args .self) (c .before .before .codes .ensures)))
+returns-3 c =
+    let there = c .before .before .before .before .before in
+    rw (sym (there .before .before .verdict .ensures) ∙ ap verdictPaper (there .enum-told .given .1), lt-ltb _ _ (c .before .before .before .if1 .left)) (ap₂ (λ (n : ℕ) (a : List ℕ). accepted (n ∷ a)) (found-count (there .before .before .before .args .self) (c .before .before .codes .ensures)) (found-codes (there .before .before .before .args .self) (c .before .before .codes .ensures)))
 
 pub allowed-args-spec : {M : Type 1} → statement M
 allowed-args-spec =
     tie.close
     (tie.spec
-    verdict-requires
-    enum-known-why
-    no-types-requires
+    (search needs)
+    (search needs)
+    (search needs)
     returns
-    enum-told
-    cast-if1
-    no-codes-requires
+    (search needs)
+    (search needs)
+    (search needs)
     returns-2
     codes-requires
     cast-t11

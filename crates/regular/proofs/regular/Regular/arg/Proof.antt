@@ -12,43 +12,32 @@ returns : tie.Need-returns
 unfolding regularArg
 returns c = simp (lt-leb _ _ (c .if1 .taken))
 
-verdict-requires : tie.Need-verdict-requires
-verdict-requires c κs = search needs
-
-enum-known-why : tie.Need-enum-known-why
-enum-known-why c = search needs
-
 returns-2 : tie.Need-returns-2
 unfolding regularArg
 returns-2 c = simp (le-leb _ _ (c .before .before .before .before .if1 .left), sym (c .before .before .before .verdict .ensures) ∙ ap verdictPaper (c .before .why .given .1))
 
-enum-told : tie.Need-enum-told
-enum-told c = search needs
-
-cast-if2 : tie.Need-cast-if2
-cast-if2 c = search needs
-
 returns-3 : tie.Need-returns-3
 unfolding regularArg
-returns-3 c = simp (le-leb _ _ (c .before .before .before .before .before .if1 .left), sym (c .before .before .before .before .verdict .ensures) ∙ ap verdictPaper (c .before .before .enum-told .given .1), le-ltb _ _ (c .if2 .taken))
-
-narrow-requires : tie.Need-narrow-requires
-narrow-requires c κs = search needs
+returns-3 c =
+    let there = c .before .before .before .before .before in
+    simp (le-leb _ _ (there .if1 .left), sym (c .before .before .before .before .verdict .ensures) ∙ ap verdictPaper (c .before .before .enum-told .given .1), le-ltb _ _ (c .if2 .taken))
 
 returns-4 : tie.Need-returns-4
 unfolding regularArg
-returns-4 c = simp (le-leb _ _ (c .before .before .before .before .before .before .if1 .left), sym (c .before .before .before .before .before .verdict .ensures) ∙ ap verdictPaper (c .before .before .before .enum-told .given .1), lt-ltb _ _ (c .before .if2 .left)) (c .narrow .ensures)
+returns-4 c =
+    let there = c .before .before .before .before .before in
+    simp (le-leb _ _ (there .before .if1 .left), sym (there .verdict .ensures) ∙ ap verdictPaper (c .before .before .before .enum-told .given .1), lt-ltb _ _ (c .before .if2 .left)) (c .narrow .ensures)
 
 pub arg-spec : {M : Type 1} → statement M
 arg-spec =
     tie.close
     (tie.spec
     returns
-    verdict-requires
-    enum-known-why
+    (search needs)
+    (search needs)
     returns-2
-    enum-told
-    cast-if2
+    (search needs)
+    (search needs)
     returns-3
-    narrow-requires
+    (search needs)
     returns-4)

@@ -8,12 +8,9 @@ use borrow.Author.Needs.{needs}
 use Rattle.regular.proofs.regular.Regular.concrete.Statement.{statement}
 use Rattle.regular.proofs.regular.Regular.concrete.Tie as tie
 
-meet-requires : tie.Need-meet-requires
-meet-requires c κs = search needs
-
 returns : tie.Need-returns
 unfolding concreteSet
 returns c = ap (λ (b : ℕ). setPaper (record { arity = c .before .before .args .self .arity; constructors = c .before .before .args .self .constructors; scalars = record { 0 = b }; conclude = c .before .before .args .self .conclude })) (c .meet .ensures)
 
 pub concrete-spec : {M : Type 1} → statement M
-concrete-spec = tie.close (tie.spec meet-requires returns)
+concrete-spec = tie.close (tie.spec (search needs) returns)

@@ -7,21 +7,9 @@ use borrow.Author.Needs.{needs}
 use Rattle.regular.proofs.regular.Regular.concrete_only.Statement.{statement}
 use Rattle.regular.proofs.regular.Regular.concrete_only.Tie as tie
 
-verdict-requires : tie.Need-verdict-requires
-verdict-requires c κs = search needs
-
-enum-known-why : tie.Need-enum-known-why
-enum-known-why c = search needs
-
 returns : tie.Need-returns
 unfolding regularConcrete
 returns c = rw (sym (c .before .before .before .verdict .ensures) ∙ ap verdictPaper (c .before .why .given .1))
-
-enum-told : tie.Need-enum-told
-enum-told c = search needs
-
-concrete-requires : tie.Need-concrete-requires
-concrete-requires c κs = search needs
 
 returns-2 : tie.Need-returns-2
 unfolding regularConcrete
@@ -30,4 +18,4 @@ returns-2 c = rw (sym (c .before .before .before .verdict .ensures) ∙ ap verdi
 pub concrete-only-spec : {M : Type 1} → statement M
 concrete-only-spec =
     tie.close
-    (tie.spec verdict-requires enum-known-why returns enum-told concrete-requires returns-2)
+    (tie.spec (search needs) (search needs) returns (search needs) (search needs) returns-2)

@@ -1,86 +1,83 @@
--- `Regular::most_preferred` meets its contract: of one constructor, the lowest scalar's rule.
+-- `Regular::most_preferred` meets its contract: the one constructor's size over the lowest scalar.
 -- Assumes nothing.
-use mathlib.Core.Path.{sym, ap, _∙_}
-use Prim.Native.Nat.{_<_}
-use native.Mathlib.Omega.{arith}
-use lib.Count.{trailingZeros}
-use borrow.Author.Tests.{not-true, not-false}
-use Rattle.regular.specs.Regular.{regularPreferred}
+use mathlib.Core.Path.{_≡_, sym, ap, _∙_}
+use mathlib.Core.Bool.{false}
+use Rattle.scalars.specs.Mask.{bits}
+use Rattle.scalars.specs.Domain.{scalarCount}
+use Rattle.scalars.specs.Paper.{verdictPaper, scalarPaper}
+use Rattle.types.specs.Domain.{constructorCount}
+use Rattle.types.specs.TypePaper.{sizePaper}
+use Rattle.regular.specs.Regular.{regularPreferred, preferredAmong, emptySet?}
 use Rattle.regular.specs.private.Tested.{Known}
-use Rattle.regular.proofs.Regulars.{accepted-known, preferred-none, preferred-one, preferred-several, lowest-known, lowestCode}
-use Rattle.scalars.specs.Paper.{verdictPaper}
+use Rattle.regular.proofs.Regulars.{accepted-known, preferred-none, preferred-one, preferred-several, scalar-found}
 use borrow.Author.Needs.{needs}
 use Rattle.regular.proofs.regular.Regular.most_preferred.Statement.{statement}
 use Rattle.regular.proofs.regular.Regular.most_preferred.Tie as tie
 
-known : (c : tie.Else2) → Known (c .before .before .before .before .before .before .before .args .self)
-known c = accepted-known (c .before .before .before .before .before .before .before .args .self) (sym (c .before .before .before .before .before .before .verdict .ensures) ∙ ap verdictPaper (c .before .before .before .before .enum-told .given .1))
+-- a set that is accepted: its bounds, and the answer by its members
+known : (c : tie.After-enum-told) → Known (c .before .before .before .args .self)
+known c = accepted-known (c .before .before .before .args .self) (sym (c .before .before .verdict .ensures) ∙ ap verdictPaper (c .enum-told .given .1))
 
--- where the masks are not empty, their lowest bits are known
-lowest : (c : tie.Else2) → (trailingZeros 16 (c .before .before .before .before .before .before .before .args .self .constructors .0) < 13) × (trailingZeros 16 (c .before .before .before .before .before .before .before .args .self .scalars .0) < 12)
-lowest c = lowest-known (c .before .before .before .before .before .before .before .args .self) (known c) (sym (c .before .before .before .holds-none .ensures) ∙ c .before .before .if1 .left)
+among : (c : tie.After-enum-told) → regularPreferred (c .before .before .before .args .self)
+    ≡ preferredAmong (c .before .before .before .args .self) (bits constructorCount (c .before .before .before .args .self .constructors .0)) (bits scalarCount (c .before .before .before .args .self .scalars .0))
+unfolding regularPreferred
+among c = rw (sym (c .before .before .verdict .ensures) ∙ ap verdictPaper (c .enum-told .given .1))
 
-verdict-requires : tie.Need-verdict-requires
-verdict-requires c κs = search needs
-
-enum-known-why : tie.Need-enum-known-why
-enum-known-why c = search needs
+some : (c : tie.Else1) → emptySet? (c .before .before .before .before .before .args .self) ≡ false
+some c = sym (c .before .holds-none .ensures) ∙ c .if1 .left
 
 returns : tie.Need-returns
 unfolding regularPreferred
 returns c = rw (sym (c .before .before .before .verdict .ensures) ∙ ap verdictPaper (c .before .why .given .1))
 
-enum-told : tie.Need-enum-told
-enum-told c = search needs
-
-holds-none-requires : tie.Need-holds-none-requires
-holds-none-requires c κs = search needs
-
 returns-2 : tie.Need-returns-2
-unfolding regularPreferred
-returns-2 c = rw (sym (c .before .before .before .before .verdict .ensures) ∙ ap verdictPaper (c .before .before .enum-told .given .1)) (preferred-none (c .before .before .before .before .before .args .self) (sym (c .before .holds-none .ensures) ∙ c .if1 .taken))
-
-is-singleton-requires : tie.Need-is-singleton-requires
-is-singleton-requires c κs = search needs
-
-returns-3 : tie.Need-returns-3
-unfolding regularPreferred
-returns-3 c = rw (sym (c .before .before .before .before .before .before .verdict .ensures) ∙ ap verdictPaper (c .before .before .before .before .enum-told .given .1)) (preferred-several (c .before .before .before .before .before .before .before .args .self) (accepted-known (c .before .before .before .before .before .before .before .args .self) (sym (c .before .before .before .before .before .before .verdict .ensures) ∙ ap verdictPaper (c .before .before .before .before .enum-told .given .1))) (sym (c .before .before .before .holds-none .ensures) ∙ c .before .before .if1 .left) (sym (c .before .is-singleton .ensures) ∙ not-true _ (c .if2 .taken)))
-
-cast-k : tie.Need-cast-k
-cast-k c = omega (arith, lowest (c .before) .0)
-
-cast-s : tie.Need-cast-s
-cast-s c = omega (arith, lowest (c .before .before) .1)
-
-mul-rule : tie.Need-mul-rule
-mul-rule c = omega (arith, lowest (c .before .before) .0)
-
-add-rule : tie.Need-add-rule
-add-rule c = omega (arith, lowest (c .before .before) .0, lowest (c .before .before) .1)
+returns-2 c = preferred-none _ (sym (c .before .holds-none .ensures) ∙ c .if1 .taken) ∙ sym (among (c .before .before))
 
 rule-requires : tie.Need-rule-requires
-rule-requires c κs = (known (c .before .before) .arity, omega (arith, lowest (c .before .before) .0, lowest (c .before .before) .1))
+rule-requires c κs =
+    let full = c .before .before .before .before .before .before .before .before in
+    known (full .before .before) .arity
+
+returns-3 : tie.Need-returns-3
+returns-3 c =
+    let sized = c .before .before .before in
+    let full = sized .before in
+    preferred-several _ (known (full .before .before)) (some full) (c .before .why2 .given .0 .0) (sym (ap sizePaper (c .before .why2 .given .1)) ∙ sized .size .ensures)
+    ∙ sym (among (full .before .before))
 
 returns-4 : tie.Need-returns-4
-unfolding regularPreferred lowestCode
-returns-4 c = rw (sym (c .before .before .before .before .before .before .before .before .before .verdict .ensures) ∙ ap verdictPaper (c .before .before .before .before .before .before .before .enum-told .given .1)) (c .rule .ensures ∙ preferred-one (c .before .before .before .before .before .before .before .before .before .before .args .self) (accepted-known (c .before .before .before .before .before .before .before .before .before .before .args .self) (sym (c .before .before .before .before .before .before .before .before .before .verdict .ensures) ∙ ap verdictPaper (c .before .before .before .before .before .before .before .enum-told .given .1))) (sym (c .before .before .before .before .before .before .holds-none .ensures) ∙ c .before .before .before .before .before .if1 .left) (sym (c .before .before .before .before .is-singleton .ensures) ∙ not-false _ (c .before .before .before .if2 .left)))
+returns-4 c =
+    let found = c .before .before .before in
+    let full = found .before .before .before .before .before in
+    scalar-found _ (known (full .before .before)) (some full) (c .before .why3 .given .0 .0) (sym (ap scalarPaper (c .before .why3 .given .1)) ∙ found .most-general-scalar .ensures)
+
+returns-5 : tie.Need-returns-5
+returns-5 c =
+    let found = c .before .before .before .before in
+    let sized = found .before .before in
+    let full = sized .before .before .before in
+    c .rule .ensures
+    ∙ preferred-one _ (known (full .before .before)) (some full) _ _ (sym (ap sizePaper (sized .size2 .given .1)) ∙ sized .before .before .size .ensures)
+    (sym (ap scalarPaper (c .before .before .scalar .given .1)) ∙ found .most-general-scalar .ensures)
+    ∙ sym (among (full .before .before))
 
 pub most-preferred-spec : {M : Type 1} → statement M
 most-preferred-spec =
     tie.close
     (tie.spec
-    verdict-requires
-    enum-known-why
+    (search needs)
+    (search needs)
     returns
-    enum-told
-    holds-none-requires
+    (search needs)
+    (search needs)
     returns-2
-    is-singleton-requires
-    returns-3
-    cast-k
-    cast-s
-    mul-rule
-    add-rule
+    (search needs)
+    (search needs)
+    (search needs)
+    (search needs)
+    (search needs)
+    (search needs)
     rule-requires
-    returns-4)
+    returns-3
+    returns-4
+    returns-5)

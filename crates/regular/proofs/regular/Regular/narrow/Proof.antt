@@ -9,18 +9,6 @@ use borrow.Author.Needs.{needs}
 use Rattle.regular.proofs.regular.Regular.narrow.Statement.{statement}
 use Rattle.regular.proofs.regular.Regular.narrow.Tie as tie
 
-singleton-requires : tie.Need-singleton-requires
-singleton-requires c κs = search needs
-
-meet-requires : tie.Need-meet-requires
-meet-requires c κs = search needs
-
-reached-scalars-requires : tie.Need-reached-scalars-requires
-reached-scalars-requires c κs = search needs
-
-meet-requires-2 : tie.Need-meet-requires-2
-meet-requires-2 c κs = search needs
-
 returns : tie.Need-returns
 unfolding narrowed
 returns c = ap₂ (λ (a b : ℕ). setPaper (record { arity = c .before .before .before .before .args .self .arity; constructors = record { 0 = a }; scalars = record { 0 = b }; conclude = c .before .before .before .before .args .self .conclude }))
@@ -30,4 +18,4 @@ returns c = ap₂ (λ (a b : ℕ). setPaper (record { arity = c .before .before 
 pub narrow-spec : {M : Type 1} → statement M
 narrow-spec =
     tie.close
-    (tie.spec singleton-requires meet-requires reached-scalars-requires meet-requires-2 returns)
+    (tie.spec (search needs) (search needs) (search needs) (search needs) returns)

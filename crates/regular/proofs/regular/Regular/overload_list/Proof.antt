@@ -9,21 +9,9 @@ use borrow.Author.Needs.{needs}
 use Rattle.regular.proofs.regular.Regular.overload_list.Statement.{statement}
 use Rattle.regular.proofs.regular.Regular.overload_list.Tie as tie
 
-verdict-requires : tie.Need-verdict-requires
-verdict-requires c κs = search needs
-
-enum-known-why : tie.Need-enum-known-why
-enum-known-why c = search needs
-
-no-listing-requires : tie.Need-no-listing-requires
-no-listing-requires c κs = search needs
-
 returns : tie.Need-returns
 unfolding regularListing
 returns c = rw (sym (c .before .before .before .before .verdict .ensures) ∙ ap verdictPaper (c .before .before .why .given .1)) (c .no-listing .ensures)
-
-enum-told : tie.Need-enum-told
-enum-told c = search needs
 
 listed-requires : tie.Need-listed-requires
 listed-requires c κs = accepted-known (c .before .before .before .args .self) (sym (c .before .before .verdict .ensures) ∙ ap verdictPaper (c .enum-told .given .1))
@@ -36,10 +24,10 @@ pub overload-list-spec : {M : Type 1} → statement M
 overload-list-spec =
     tie.close
     (tie.spec
-    verdict-requires
-    enum-known-why
-    no-listing-requires
+    (search needs)
+    (search needs)
+    (search needs)
     returns
-    enum-told
+    (search needs)
     listed-requires
     returns-2)

@@ -7,43 +7,37 @@ use borrow.Author.Needs.{needs}
 use Rattle.rules.proofs.rule.Rule.known.Statement.{statement}
 use Rattle.rules.proofs.rule.Rule.known.Tie as tie
 
-known-at-requires : tie.Need-known-at-requires
-known-at-requires c κs = search needs
-
 returns : tie.Need-returns
 returns c = simp (known-four (c .before .before .args .self), sym (c .before .known-at .ensures) ∙ not-true _ (c .if1 .taken))
-
-known-at-requires-2 : tie.Need-known-at-requires-2
-known-at-requires-2 c κs = search needs
 
 returns-2 : tie.Need-returns-2
 returns-2 c = simp (known-four (c .before .before .before .before .args .self), sym (c .before .before .before .known-at .ensures) ∙ not-false _ (c .before .before .if1 .left), sym (c .before .known-at2 .ensures) ∙ not-true _ (c .if2 .taken))
 
-known-at-requires-3 : tie.Need-known-at-requires-3
-known-at-requires-3 c κs = search needs
-
 returns-3 : tie.Need-returns-3
-returns-3 c = simp (known-four (c .before .before .before .before .before .before .args .self), sym (c .before .before .before .before .before .known-at .ensures) ∙ not-false _ (c .before .before .before .before .if1 .left), sym (c .before .before .before .known-at2 .ensures) ∙ not-false _ (c .before .before .if2 .left), sym (c .before .known-at3 .ensures) ∙ not-true _ (c .if3 .taken))
-
-known-at-requires-4 : tie.Need-known-at-requires-4
-known-at-requires-4 c κs = search needs
+returns-3 c =
+    let asked = c .before .before .before .before .before in
+    simp (known-four (asked .before .args .self), sym (asked .known-at .ensures) ∙ not-false _ (c .before .before .before .before .if1 .left), sym (c .before .before .before .known-at2 .ensures) ∙ not-false _ (c .before .before .if2 .left), sym (c .before .known-at3 .ensures) ∙ not-true _ (c .if3 .taken))
 
 returns-4 : tie.Need-returns-4
-returns-4 c = simp (known-four (c .before .before .before .before .before .before .before .before .args .self), sym (c .before .before .before .before .before .before .before .known-at .ensures) ∙ not-false _ (c .before .before .before .before .before .before .if1 .left), sym (c .before .before .before .before .before .known-at2 .ensures) ∙ not-false _ (c .before .before .before .before .if2 .left), sym (c .before .before .before .known-at3 .ensures) ∙ not-false _ (c .before .before .if3 .left), sym (c .before .known-at4 .ensures) ∙ not-true _ (c .if4 .taken))
+returns-4 c =
+    let asked = c .before .before .before .before .before in
+    simp (known-four (asked .before .before .before .args .self), sym (asked .before .before .known-at .ensures) ∙ not-false _ (asked .before .if1 .left), sym (asked .known-at2 .ensures) ∙ not-false _ (c .before .before .before .before .if2 .left), sym (c .before .before .before .known-at3 .ensures) ∙ not-false _ (c .before .before .if3 .left), sym (c .before .known-at4 .ensures) ∙ not-true _ (c .if4 .taken))
 
 returns-5 : tie.Need-returns-5
-returns-5 c = simp (known-four (c .before .before .before .before .before .before .before .before .before .args .self), sym (c .before .before .before .before .before .before .before .before .known-at .ensures) ∙ not-false _ (c .before .before .before .before .before .before .before .if1 .left), sym (c .before .before .before .before .before .before .known-at2 .ensures) ∙ not-false _ (c .before .before .before .before .before .if2 .left), sym (c .before .before .before .before .known-at3 .ensures) ∙ not-false _ (c .before .before .before .if3 .left), sym (c .before .before .known-at4 .ensures) ∙ not-false _ (c .before .if4 .left))
+returns-5 c =
+    let asked = c .before .before .before .before .before in
+    simp (known-four (asked .before .before .before .before .args .self), sym (asked .before .before .before .known-at .ensures) ∙ not-false _ (asked .before .before .if1 .left), sym (asked .before .known-at2 .ensures) ∙ not-false _ (asked .if2 .left), sym (c .before .before .before .before .known-at3 .ensures) ∙ not-false _ (c .before .before .before .if3 .left), sym (c .before .before .known-at4 .ensures) ∙ not-false _ (c .before .if4 .left))
 
 pub known-spec : {M : Type 1} → statement M
 known-spec =
     tie.close
     (tie.spec
-    known-at-requires
+    (search needs)
     returns
-    known-at-requires-2
+    (search needs)
     returns-2
-    known-at-requires-3
+    (search needs)
     returns-3
-    known-at-requires-4
+    (search needs)
     returns-4
     returns-5)

@@ -6,11 +6,8 @@ use Rattle.rules.proofs.Records.{arguments-many}
 use Rattle.rules.proofs.rule.Rule.len.Statement.{statement}
 use Rattle.rules.proofs.rule.Rule.len.Tie as tie
 
-held-requires : tie.Need-held-requires
-held-requires c κs = search needs
-
 returns : tie.Need-returns
 returns c = c .held .ensures ∙ sym (arguments-many _)
 
 pub len-spec : {M : Type 1} → statement M
-len-spec = tie.close (tie.spec held-requires returns)
+len-spec = tie.close (tie.spec (search needs) returns)

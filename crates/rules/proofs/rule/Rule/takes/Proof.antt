@@ -7,14 +7,8 @@ use borrow.Author.Needs.{needs}
 use Rattle.rules.proofs.rule.Rule.takes.Statement.{statement}
 use Rattle.rules.proofs.rule.Rule.takes.Tie as tie
 
-argument-requires : tie.Need-argument-requires
-argument-requires c κs = search needs
-
-reaches-requires : tie.Need-reaches-requires
-reaches-requires c κs = search needs
-
 returns : tie.Need-returns
 returns c = c .reaches .ensures ∙ ap (reaches (c .before .before .args .t)) (c .before .argument .ensures) ∙ sym (takes-argument (c .before .before .args .self) (c .before .before .args .i) (c .before .before .args .t))
 
 pub takes-spec : {M : Type 1} → statement M
-takes-spec = tie.close (tie.spec argument-requires reaches-requires returns)
+takes-spec = tie.close (tie.spec (search needs) (search needs) returns)

@@ -10,15 +10,9 @@ returns : tie.Need-returns
 unfolding member
 returns c = simp (le-ltb _ _ (c .if1 .taken))
 
-cast-result : tie.Need-cast-result
-cast-result c = search needs
-
-shr-result : tie.Need-shr-result
-shr-result c = search needs
-
 returns-2 : tie.Need-returns-2
 unfolding member
 returns-2 c = simp (lt-ltb _ _ (c .before .if1 .left))
 
 pub contains-spec : {M : Type 1} → statement M
-contains-spec = tie.close (tie.spec returns cast-result shr-result returns-2)
+contains-spec = tie.close (tie.spec returns (search needs) (search needs) returns-2)

@@ -16,11 +16,8 @@ returns-2 : tie.Need-returns-2
 unfolding convertibleFrom converts
 returns-2 c = simp (c .if2 .taken)
 
-singleton-requires : tie.Need-singleton-requires
-singleton-requires c κs = search needs
-
 returns-3 : tie.Need-returns-3
-returns-3 c = c .singleton .ensures ∙ own _ (c .before .before .if1 .left) (c .before .if2 .left)
+returns-3 c = c .singleton .ensures ∙ own _ (c .before .before .before .if1 .left) (c .before .if2 .left)
 
 pub convertible-from-spec : {M : Type 1} → statement M
-convertible-from-spec = tie.close (tie.spec returns returns-2 singleton-requires returns-3)
+convertible-from-spec = tie.close (tie.spec returns returns-2 (search needs) returns-3)

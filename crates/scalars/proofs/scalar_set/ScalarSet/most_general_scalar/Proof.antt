@@ -18,11 +18,11 @@ returns-2 : tie.Need-returns-2
 unfolding mostGeneral bits
 returns-2 c = simp (c .if2 .taken)
 
-cast-t7 : tie.Need-cast-t7
-cast-t7 c = omega (arith, trailing-le 16 (c .before .before .args .self .0))
+cast-t8 : tie.Need-cast-t8
+cast-t8 c = omega (arith, trailing-le 16 (c .before .before .before .args .self .0))
 
 returns-3 : tie.Need-returns-3
 returns-3 c = sym (lowest _ (omega arith) (omega arith))
 
 pub most-general-scalar-spec : {M : Type 1} → statement M
-most-general-scalar-spec = tie.close (tie.spec returns returns-2 cast-t7 returns-3)
+most-general-scalar-spec = tie.close (tie.spec returns returns-2 cast-t8 returns-3)

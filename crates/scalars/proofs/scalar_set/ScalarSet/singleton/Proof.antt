@@ -11,14 +11,8 @@ returns : tie.Need-returns
 unfolding singletonOf
 returns c = simp (le-ltb _ _ (c .if1 .taken))
 
-cast-t4 : tie.Need-cast-t4
-cast-t4 c = search needs
-
-shl-t5 : tie.Need-shl-t5
-shl-t5 c = search needs
-
 returns-2 : tie.Need-returns-2
 returns-2 c = single _ (c .if1 .left)
 
 pub singleton-spec : {M : Type 1} → statement M
-singleton-spec = tie.close (tie.spec returns cast-t4 shl-t5 returns-2)
+singleton-spec = tie.close (tie.spec returns (search needs) (search needs) returns-2)

@@ -12,15 +12,9 @@ returns : tie.Need-returns
 unfolding singletonOfCode
 returns c = simp (le-ltb _ _ (c .if1 .taken))
 
-cast-t4 : tie.Need-cast-t4
-cast-t4 c = search needs
-
-shl-t5 : tie.Need-shl-t5
-shl-t5 c = search needs
-
 returns-2 : tie.Need-returns-2
 unfolding singletonOfCode
 returns-2 c = simp (lt-ltb _ _ (c .if1 .left)) (bit-is 16 _ (omega arith))
 
 pub singleton-spec : {M : Type 1} → statement M
-singleton-spec = tie.close (tie.spec returns cast-t4 shl-t5 returns-2)
+singleton-spec = tie.close (tie.spec returns (search needs) (search needs) returns-2)

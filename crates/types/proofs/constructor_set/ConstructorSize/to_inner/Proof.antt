@@ -7,18 +7,6 @@ use borrow.Author.Needs.{needs}
 use Rattle.types.proofs.constructor_set.ConstructorSize.to_inner.Statement.{statement}
 use Rattle.types.proofs.constructor_set.ConstructorSize.to_inner.Tie as tie
 
-constructor-requires : tie.Need-constructor-requires
-constructor-requires c κs = search needs
-
-enum-known-why : tie.Need-enum-known-why
-enum-known-why c = search needs
-
-enum-known-constructor : tie.Need-enum-known-constructor
-enum-known-constructor c = search needs
-
-value-code-requires : tie.Need-value-code-requires
-value-code-requires c κs = search needs
-
 returns : tie.Need-returns
 unfolding innerOf
 returns c = rw (sym (c .before .before .before .constructor .ensures) ∙ ap constructorPaper (c .before .why .given .1))
@@ -31,9 +19,9 @@ pub to-inner-spec : {M : Type 1} → statement M
 to-inner-spec =
     tie.close
     (tie.spec
-    constructor-requires
-    enum-known-why
-    enum-known-constructor
-    value-code-requires
+    (search needs)
+    (search needs)
+    (search needs)
+    (search needs)
     returns
     returns-2)

@@ -4,7 +4,7 @@ use mathlib.Core.Path.{_≡_, refl}
 use native.Mathlib.Omega.{arith}
 use borrow.Author.Needs.{needs}
 use lib.ListN.{length}
-use Rattle.worksheet.specs.claims.Room.{enoughBytes}
+use Rattle.worksheet.specs.private.Sheet.{enoughBytes}
 use Rattle.worksheet.proofs.Written.{one-more}
 use Rattle.worksheet.proofs.sheet.Sheet.put.Statement.{statement}
 use Rattle.worksheet.proofs.sheet.Sheet.put.Tie as tie

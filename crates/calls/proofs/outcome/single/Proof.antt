@@ -1,0 +1,51 @@
+-- `single` meets its contract, case by case.
+-- Assumes nothing.
+use mathlib.Core.Path.{sym, ap, subst}
+use Prim.Native.Nat.{_+_, _^_, _<_}
+use native.Mathlib.Omega.{arith}
+use Rattle.calls.specs.OutcomePaper.{outcomePaper}
+use Rattle.calls.specs.private.Steps.{OutcomePlaced}
+use borrow.Author.Needs.{needs}
+use Rattle.calls.proofs.outcome.single.Statement.{statement}
+use Rattle.calls.proofs.outcome.single.Tie as tie
+
+enum-known-outcome : tie.Need-enum-known-outcome
+enum-known-outcome c = search needs
+
+enum-told : tie.Need-enum-told
+enum-told c = search needs
+
+enum-known-outcome-2 : tie.Need-enum-known-outcome-2
+enum-known-outcome-2 c = search needs
+
+add-t6 : tie.Need-add-t6
+add-t6 c = let h : 1 + c .before .outcome2 .given .0 .0 < 2 ^ 64 = subst OutcomePlaced (c .before .outcome2 .given .1) (c .before .before .before .pre) in omega arith
+
+enum-told-2 : tie.Need-enum-told-2
+enum-told-2 c = search needs
+
+returns : tie.Need-returns
+returns c = sym (ap outcomePaper (c .before .outcome .given .1))
+
+returns-2 : tie.Need-returns-2
+returns-2 c = sym (ap outcomePaper (c .enum-told .given .1))
+
+returns-3 : tie.Need-returns-3
+returns-3 c = sym (ap outcomePaper (c .before .outcome2 .given .1))
+
+returns-4 : tie.Need-returns-4
+returns-4 c = sym (ap outcomePaper (c .enum-told2 .given .1))
+
+pub single-spec : {M : Type 1} → statement M
+single-spec =
+    tie.close
+    (tie.spec
+    enum-known-outcome
+    enum-told
+    enum-known-outcome-2
+    add-t6
+    enum-told-2
+    returns
+    returns-2
+    returns-3
+    returns-4)

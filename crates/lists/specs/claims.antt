@@ -1,2 +1,0 @@
--- What theorems say, and the words that they say it in. No contract of a public function cites it.
-pub mod Expands

@@ -1,0 +1,34 @@
+-- 'Answers by number', 5, 6 and 1 in an expression: which call is at fault, what is wrong there, as Taking says it of a
+-- single call, and the place.
+use mathlib.Core.Bool.{Bool}
+use mathlib.Core.List.{List}
+use Prim.Native.Nat.{ℕ}
+use lib.ListN.{getD}
+use Rattle.rules.specs.Signature.{Signature}
+use Rattle.calls.specs.Choice.{wrongCount, noneAfter, noneConcrete}
+use Rattle.theorems.specs.Taking.{Says}
+use Rattle.expressions.specs.Tree.{Tree, Trees, call, more}
+use Rattle.worksheet.specs.Places.{inside, behind, starts}
+use Rattle.machine.specs.Line.{Line}
+use Rattle.theorems.specs.Meaning.{Gives, GiveAll}
+
+-- what is wrong with a call of these operands, by its number in the table and its place: how many they are (5), at the call; the first
+-- of them after which no rule is left (6), at that operand; or, with a rule left after each, that none takes them all, as when the
+-- concrete-only step leaves no rule (1), at the call
+pub data Fault (switch : Bool) (rules : List Signature) (ts : List ℕ) (at : ℕ) (places : List ℕ) : ℕ → ℕ → Type 0 where
+  wrongNumber : Says switch rules ts wrongCount → Fault switch rules ts at places 5 at
+  noneLeft : {k : ℕ} → Says switch rules ts (noneAfter k) → Fault switch rules ts at places 6 (getD places k 0)
+  noneTakes : Says switch rules ts noneConcrete → Fault switch rules ts at places 1 at
+
+module _ (listingOf : ℕ → List Signature) (switch : Bool) where
+  -- an expression whose first byte is at this offset fails by this number and place: arguments before their call, left to right
+  mutual
+    pub data Fails : Tree → ℕ → ℕ → ℕ → Type 0 where
+      failsInside : {f at n p : ℕ} {es : Trees} → FailsAmong es (inside at) n p → Fails (call f es) at n p
+      failsHere : {f at n p : ℕ} {es : Trees} {ts : List ℕ} {ls : List Line} → GiveAll listingOf switch es ts ls
+          → Fault switch (listingOf f) ts at (starts es (inside at)) n p → Fails (call f es) at n p
+
+    pub data FailsAmong : Trees → ℕ → ℕ → ℕ → Type 0 where
+      failsFirst : {e : Tree} {es : Trees} {at n p : ℕ} → Fails e at n p → FailsAmong (more e es) at n p
+      failsLater : {e : Tree} {es : Trees} {at t n p : ℕ} {ls : List Line} → Gives listingOf switch e t ls
+          → FailsAmong es (behind e at) n p → FailsAmong (more e es) at n p
