@@ -1,5 +1,5 @@
-/* Azwukran for C: overload resolution of shader math functions, sets made by hand, consensus of scalars, and worksheets of
- * expressions.
+/* Azwukran for C: overload resolution of shader math functions, sets made by hand, consensus of scalars, and worksheets and
+ * texts of expressions.
  *
  * Link target/staticlib/libazwukran.a, which `rt staticlib azwukran` writes (x86-64). The library uses no heap, keeps
  * nothing between calls and writes nothing but the bytes lent to it as `out`, so any thread may call it at any time.
@@ -69,16 +69,21 @@ enum azwukran_number {
     /* An expression is cut short, has an unknown tag, or has bytes left over; or a List's last rule is cut short, or its
      * mask. Place: the offset. */
     AZWUKRAN_MALFORMED = 8,
-    /* An expression has a 65th node or a node at depth 17. Place: that node's offset. */
+    /* An expression has a 65th node or a node at depth 17. Place: that node's offset; in a text, its name's. */
     AZWUKRAN_TOO_LARGE = 9,
-    /* A worksheet or a mask is longer than the bytes lent for it. Place: the bytes needed. */
+    /* A worksheet, a mask, an expression or a text is longer than the bytes lent for it. Place: the bytes needed. */
     AZWUKRAN_ROOM = 10,
     /* A consensus over no components, and no base. Place: 0. */
     AZWUKRAN_NOTHING = 11,
     /* There is no consensus. Place: the index of the component that does not agree, or has no scalar. */
     AZWUKRAN_DISAGREE = 12,
     /* A Modf or Frexp result is wanted for a matrix, or for a scalar other than F32, F16, F64. Place: 0. */
-    AZWUKRAN_OUTSIDE = 13
+    AZWUKRAN_OUTSIDE = 13,
+    /* A run of bytes in a text is no name of a function or a type, where one is wanted. Place: its offset. */
+    AZWUKRAN_UNKNOWN_RUN = 14,
+    /* A text has more than 4,096 bytes, or something else in it is misplaced or missing. Place: 4096; the offset of what is
+     * misplaced; the text's length for what is missing at its end. */
+    AZWUKRAN_MISPLACED = 15
 };
 
 /* A chosen rule. */
@@ -129,6 +134,13 @@ typedef struct azwukran_type_answer {
     size_t place;
 } azwukran_type_answer;
 
+/* What was read from a text, or the text that was written. */
+typedef struct azwukran_text_answer {
+    uint8_t number;
+    size_t length; /* How many bytes it takes. */
+    size_t place;
+} azwukran_text_answer;
+
 /* How a worksheet ran. */
 typedef struct azwukran_run_answer {
     uint8_t number;  /* 0: to its end. AZWUKRAN_STOPPED: not. */
@@ -171,6 +183,24 @@ azwukran_consensus_answer azwukran_consensus(uint8_t base, const uint8_t *compon
  * bytes behind it keep theirs. To learn the length without lending any, ask with room 0: an expression that is right but for
  * that is refused by 10, with the length as its place. */
 azwukran_type_answer azwukran_type(const uint8_t *bytes, size_t n, uint8_t concrete_only, uint8_t *out, size_t room);
+
+/* Texts
+ *
+ * The text of an expression is that of its root. A leaf's is the name of its type; a call's is the name of its function,
+ * and then the texts of its arguments, with commas between them, in one pair of parentheses, which may be empty. Scalars are
+ * named abstract-int, abstract-float, i32, i16, i64, u32, u16, u64, f32, f16, f64 and bool, others as vec3<f32> and
+ * mat2x3<f16>, and 156 is other. A function's name is naga's with the first letter made small, as faceForward. A token is
+ * ( or ) or , or a longest run of other bytes but space. Spaces may stand before, between and behind tokens. */
+
+/* Reads a text of n bytes and writes the expression's bytes to the front of `out`, which has `room` bytes; 192 always
+ * suffice. Refusals: 15 for a text above 4,096 bytes; then the first in the text of 9, 14 and 15, with 9 before 14 at one
+ * name; then 10. Nothing is typed: whether the functions take their arguments is for azwukran_type to say. */
+azwukran_text_answer azwukran_read_text(const uint8_t *text, size_t n, uint8_t *out, size_t room);
+
+/* Writes the text of an expression of n bytes to the front of `out`, which has `room` bytes; 1,536 always suffice. A space
+ * stands behind each comma and nowhere else, and no zero byte is added. Reading the text gives back the bytes. Refusals: 8,
+ * 9, 7 in the order of the bytes, as for azwukran_type, then 10. */
+azwukran_text_answer azwukran_write_text(const uint8_t *bytes, size_t n, uint8_t *out, size_t room);
 
 /* Runs a worksheet of n bytes on the strict machine, which stops at the first line that is not exactly right. */
 azwukran_run_answer azwukran_run(const uint8_t *sheet, size_t n);

@@ -10,13 +10,16 @@ use naga::proc::overloads_oracle::Hand;
 use crate::crate_side::{Asker, Crate, Expression, RuleCodes};
 use crate::expressions::{self, ENOUGH_ROOM};
 use crate::generate::{self, Accepted, Generator};
+use crate::generate_texts::TextGenerator;
 use crate::machine::LINE;
 use crate::numbering::{self, FUNCTIONS, NONE, OPAQUE, SCALAR_COUNT};
 use crate::ours::{self, List, Masked, Regular, LENT};
 use crate::random::Random;
+use crate::texts::{self, Names, ENOUGH_TEXT};
 
 const INPUTS: usize = 20_000;
 const EXPRESSIONS: usize = 4_000;
+const TEXTS: usize = 2_000;
 const ROUNDS: usize = 11;
 
 pub fn bench(seed: u64) {
@@ -31,6 +34,7 @@ pub fn bench(seed: u64) {
     bench_list_steps(&rules, seed);
     rules.with_consensus(|asker| bench_consensus(asker, seed));
     bench_typing(&rules, seed);
+    bench_texts(seed);
 }
 
 /// Full resolution: the function's overloads are built, every argument is tried, the preferred rule is asked for.
@@ -187,6 +191,57 @@ fn bench_typing(rules: &Crate, seed: u64) {
         },
         |bytes| {
             black_box(ours::type_expression(bytes, false, &mut buffer));
+        },
+    );
+}
+
+/// Texts of about 200 bytes, read and written, and long texts, most of whose bytes are spaces. The crate has no such reader
+/// and writer: its side is the independent one of this program.
+fn bench_texts(seed: u64) {
+    let names = Names::new();
+    let mut generator = TextGenerator::new(&names, seed);
+    let mut texts = Vec::with_capacity(TEXTS);
+    let mut long = Vec::with_capacity(TEXTS);
+    let mut longest = Vec::with_capacity(TEXTS);
+    while texts.len() < TEXTS {
+        let tokens = generator.tokens();
+        let Ok(bytes) = texts::read(&names, &tokens.concat()) else { continue };
+        let text = texts::write(&names, &bytes).expect("what was read is written");
+        if (180..220).contains(&text.len()) {
+            long.push(generator.padded(&tokens, 2_000));
+            longest.push(generator.padded(&tokens, 4_000));
+            texts.push((text, bytes));
+        }
+    }
+    let (texts, written): (Vec<Vec<u8>>, Vec<Vec<u8>>) = texts.into_iter().unzip();
+    let nodes = written.iter().flat_map(|bytes| expressions::read(bytes)).map(|nodes| nodes.len()).sum::<usize>()
+        as f64
+        / TEXTS as f64;
+    let mut theirs = vec![0; ENOUGH_TEXT];
+    let mut buffer = vec![0; ENOUGH_TEXT];
+    let mut time_reading = |name: &str, texts: &[Vec<u8>]| {
+        time(
+            name,
+            texts,
+            |text| {
+                black_box(texts::put(&texts::read(&names, text), &mut theirs));
+            },
+            |text| {
+                black_box(ours::read_text(text, &mut buffer));
+            },
+        );
+    };
+    time_reading(&format!("reading 200 bytes, {nodes:.1} nodes"), &texts);
+    time_reading("the same spread over 2,000 bytes", &long);
+    time_reading("the same spread over 4,000 bytes", &longest);
+    time(
+        &format!("writing 200 bytes, {nodes:.1} nodes"),
+        &written,
+        |bytes| {
+            black_box(texts::put(&texts::write(&names, bytes), &mut theirs));
+        },
+        |bytes| {
+            black_box(ours::write_text(bytes, &mut buffer));
         },
     );
 }

@@ -1,5 +1,5 @@
 //! Puts the same questions to the crate and to the library and counts the answers that differ: rules, calls, sets made by
-//! hand, consensus, expressions and worksheets. Where the questions are few enough they are all put; the rest are drawn
+//! hand, consensus, expressions, worksheets and texts. Where the questions are few enough they are all put; the rest are drawn
 //! from the seed.
 
 use std::panic::{self, AssertUnwindSafe};
@@ -16,6 +16,7 @@ use crate::random::Random;
 use crate::readings::{self, Reading};
 use crate::sets::compare_sets;
 use crate::tally::{beginning, differing, grouped, Tally};
+use crate::text_questions::compare_texts;
 
 /// Compares everything and prints what was compared. Answers whether nothing differs.
 pub fn compare(seed: u64, quick: bool) -> bool {
@@ -33,6 +34,7 @@ pub fn compare(seed: u64, quick: bool) -> bool {
         rules.with_consensus(|asker| compare_consensus(asker, &effort, seed)),
         compare_expressions(&rules, &effort, seed),
         compare_worksheets(&rules, &effort, seed),
+        compare_texts(&rules, &effort, seed),
     ];
     let differ: u64 = differ.iter().sum();
     println!("{} in all", differing(differ));
@@ -134,16 +136,7 @@ fn compare_expressions(rules: &Crate, effort: &Effort, seed: u64) -> u64 {
     let mut generator = Generator::new(rules, seed);
     let mut by_number = [0u64; 14];
     for _ in 0..effort.expressions {
-        let bytes = match generator.random.below(20) {
-            0..=8 => generator.fitting(),
-            9..=10 => generator.unfitting(),
-            11..=15 => {
-                let whole = generator.fitting();
-                generator.damaged(&whole)
-            }
-            16..=17 => generator.at_a_limit(),
-            _ => generator.raw(),
-        };
+        let bytes = generator.any();
         for concrete_only in [false, true] {
             let answer = expressions::type_expression(rules, &bytes, concrete_only);
             let needed = answer.1.len();

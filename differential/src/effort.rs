@@ -16,6 +16,10 @@ pub struct Effort {
     pub expressions: usize,
     /// Random worksheets.
     pub worksheets: usize,
+    /// Rows of tokens up to this length are all read.
+    pub tokens: usize,
+    /// Random texts to read, and as many random expressions to write.
+    pub texts: usize,
 }
 
 pub const FULL: Effort = Effort {
@@ -26,6 +30,8 @@ pub const FULL: Effort = Effort {
     consensus: 4_000_000,
     expressions: 1_000_000,
     worksheets: 2_000_000,
+    tokens: 8,
+    texts: 2_000_000,
 };
 
 pub const QUICK: Effort = Effort {
@@ -36,4 +42,6 @@ pub const QUICK: Effort = Effort {
     consensus: 200_000,
     expressions: 40_000,
     worksheets: 80_000,
+    tokens: 6,
+    texts: 80_000,
 };

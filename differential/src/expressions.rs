@@ -9,16 +9,16 @@ use crate::ours::{self, Refused, TypeAnswer};
 /// The room that suffices for every worksheet: 64 leaves and calls, and 63 conversions.
 pub const ENOUGH_ROOM: usize = 508;
 
-const MOST_NODES: usize = 64;
-const DEEPEST: usize = 16;
+pub const MOST_NODES: usize = 64;
+pub const DEEPEST: usize = 16;
 
-struct Node {
+pub struct Node {
     /// Where its tag stands.
     offset: usize,
-    kind: Kind,
+    pub kind: Kind,
 }
 
-enum Kind {
+pub enum Kind {
     Leaf(u8),
     Call { function: u8, arguments: u8 },
 }
@@ -51,7 +51,7 @@ pub fn in_room((typed, sheet): &(TypeAnswer, Vec<u8>), room: usize) -> (TypeAnsw
 }
 
 /// The first pass: nodes in the order of their tags, or the first fault.
-fn read(bytes: &[u8]) -> Result<Vec<Node>, TypeAnswer> {
+pub fn read(bytes: &[u8]) -> Result<Vec<Node>, TypeAnswer> {
     let present = |offset: usize| bytes.get(offset).copied().ok_or(TypeAnswer::refused(8, offset));
     let mut nodes = Vec::with_capacity(MOST_NODES);
     let mut offset = 0;

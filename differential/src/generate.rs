@@ -80,6 +80,20 @@ impl<'a> Generator<'a> {
         Generator { rules, random: Random::new(seed), by_result, by_arguments }
     }
 
+    /// An expression of any kind, from well-formed to raw bytes.
+    pub fn any(&mut self) -> Vec<u8> {
+        match self.random.below(20) {
+            0..=8 => self.fitting(),
+            9..=10 => self.unfitting(),
+            11..=15 => {
+                let whole = self.fitting();
+                self.damaged(&whole)
+            }
+            16..=17 => self.at_a_limit(),
+            _ => self.raw(),
+        }
+    }
+
     /// A well-formed expression; most are accepted. At most 64 nodes and depth 16.
     pub fn fitting(&mut self) -> Vec<u8> {
         let function = self.random.below(FUNCTIONS.len()) as u8;

@@ -2,6 +2,7 @@
 //!
 //!     differential compare [--seed N] [--quick]    exits with 1 where anything differs
 //!     differential bench [--seed N]
+//!     differential texts [--seed N]                writes the stored answers on texts to standard output
 
 mod bench;
 mod calls;
@@ -10,18 +11,22 @@ mod crate_side;
 mod effort;
 mod expressions;
 mod generate;
+mod generate_texts;
 mod machine;
 mod numbering;
 mod ours;
 mod random;
 mod readings;
 mod sets;
+mod stored_texts;
 mod tally;
+mod text_questions;
+mod texts;
 
 use std::env;
 use std::process::ExitCode;
 
-const USAGE: &str = "usage: differential compare [--seed N] [--quick] | bench [--seed N]";
+const USAGE: &str = "usage: differential compare [--seed N] [--quick] | bench [--seed N] | texts [--seed N]";
 
 fn main() -> ExitCode {
     let words: Vec<String> = env::args().skip(1).collect();
@@ -46,6 +51,13 @@ fn main() -> ExitCode {
             bench::bench(seed);
             ExitCode::SUCCESS
         }
+        "texts" => match stored_texts::store(seed) {
+            Ok(()) => ExitCode::SUCCESS,
+            Err(fault) => {
+                eprintln!("the stored answers cannot be written: {fault}");
+                ExitCode::FAILURE
+            }
+        },
         _ => usage(),
     }
 }

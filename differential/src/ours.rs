@@ -3,8 +3,8 @@
 //! `==`, over the fields that are kept free, too.
 
 pub use azwukran::{
-    call, consensus, mask_bytes, rule, run, type_expression, ChosenAnswer, ConsensusAnswer, List, MaskAnswer, Regular,
-    RegularAnswer, RuleAnswer, RunAnswer, TypeAnswer,
+    call, consensus, mask_bytes, read_text, rule, run, type_expression, write_text, ChosenAnswer, ConsensusAnswer,
+    List, MaskAnswer, Regular, RegularAnswer, RuleAnswer, RunAnswer, TextAnswer, TypeAnswer,
 };
 
 use crate::numbering::NONE;
@@ -38,6 +38,12 @@ impl Refused for TypeAnswer {
     }
 }
 
+impl Refused for TextAnswer {
+    fn refused(number: u8, place: usize) -> TextAnswer {
+        TextAnswer { number, place, ..made(NONE.into()) }
+    }
+}
+
 impl Refused for RegularAnswer {
     /// A refusal answers the empty set.
     fn refused(number: u8, place: usize) -> RegularAnswer {
@@ -59,6 +65,11 @@ pub fn agreed(scalar: u8) -> ConsensusAnswer {
 /// An expression of this type, with a worksheet of so many bytes.
 pub fn typed(type_code: u8, length: usize) -> TypeAnswer {
     TypeAnswer { number: 0, type_code, mark: NONE, length, place: 0 }
+}
+
+/// Bytes or a text of this length.
+pub fn made(length: usize) -> TextAnswer {
+    TextAnswer { number: 0, length, place: 0 }
 }
 
 /// A worksheet that ran to its end, with so many operands and the top's type, 255 where there is none.

@@ -8,11 +8,13 @@
 
 /* Functions and types by number. */
 enum { CLAMP = 4, SIN = 5, POW = 32, DISTANCE = 66, MIX = 72, TRANSPOSE = 74 };
-enum { ABSTRACT_INT = 0, ABSTRACT_FLOAT = 1, U32 = 5, F32 = 8, F16 = 9, VEC2_F32 = 20, NONE = 255 };
+enum { ABSTRACT_INT = 0, ABSTRACT_FLOAT = 1, U32 = 5, F32 = 8, F16 = 9, VEC2_F32 = 20, NO_LEAF = 157, NONE = 255 };
 
-/* Bytes of every worksheet, of every mask, of a worksheet's line and of a List's rule; the most rules of a List; and what
- * stands in lent bytes before they are written. */
-enum { ENOUGH_ROOM = 508, ENOUGH_MASK = 8, LINE = 4, RULE = 6, MOST_RULES = 63, FILL = 165 };
+/* Bytes of every worksheet, of every expression that is read, of every text that is written, of every mask, of a worksheet's
+ * line and of a List's rule; the most rules of a List; the depth that a node may have; and what stands in lent bytes before
+ * they are written. */
+enum { ENOUGH_ROOM = 508, ENOUGH_BYTES = 192, ENOUGH_TEXT = 1536, ENOUGH_MASK = 8 };
+enum { LINE = 4, RULE = 6, MOST_RULES = 63, DEEPEST = 16, FILL = 165 };
 
 /* Prints the refusal, if there is one. */
 static int refused(uint8_t number, size_t place) {
@@ -114,6 +116,37 @@ static void show_expression(const uint8_t *bytes, size_t n) {
     show_run("machine, without the first line", sheet + LINE, length - LINE);
 }
 
+/* The text of an expression, written with this room, at most ENOUGH_TEXT. */
+static void show_written(const char *question, const uint8_t *bytes, size_t n, size_t room) {
+    printf("%s: ", question);
+    uint8_t lent[ENOUGH_TEXT];
+    memset(lent, FILL, sizeof lent);
+    azwukran_text_answer written = azwukran_write_text(bytes, n, lent, room);
+    if (!refused(written.number, written.place)) {
+        printf("%.*s\n", (int)written.length, (const char *)lent);
+    }
+}
+
+/* The bytes that a text is read into, and the text written of them, also with too little room for either. */
+static void show_text(const char *text) {
+    const uint8_t *start = (const uint8_t *)text;
+    printf("text %s: ", text);
+    uint8_t bytes[ENOUGH_BYTES];
+    azwukran_text_answer read = azwukran_read_text(start, strlen(text), bytes, sizeof bytes);
+    if (refused(read.number, read.place)) {
+        return;
+    }
+    print_listed(bytes, read.length);
+    printf("\n  read with a byte too little: ");
+    uint8_t short_of_one[ENOUGH_BYTES];
+    azwukran_text_answer again = azwukran_read_text(start, strlen(text), short_of_one, read.length - 1);
+    if (!refused(again.number, again.place)) {
+        printf("%zu\n", again.length);
+    }
+    show_written("  written", bytes, read.length, ENOUGH_TEXT);
+    show_written("  written with no room", bytes, read.length, 0);
+}
+
 /* Prints a Regular set behind a question, or the refusal. */
 static void show_set(const char *question, azwukran_regular_answer set) {
     printf("%s: ", question);
@@ -204,6 +237,21 @@ int main(void) {
     const uint8_t power[] = {1, POW, 2, 1, DISTANCE, 2, 0, ABSTRACT_FLOAT, 0, ABSTRACT_FLOAT, 0, F16};
     show_expression(clamp, sizeof clamp);
     show_expression(power, sizeof power);
+    show_text("clamp(abstract-int, u32, abstract-int)");
+    show_text(" mix ( vec2<f32>,vec2<f32>,f32 ) ");
+    show_text("sin()");
+    show_text("Sin(f32)");
+    show_text("sin(f32,)");
+    show_text("sin(f32");
+    char deep[4 * DEEPEST + 4] = "";
+    for (size_t depth = 0; depth < DEEPEST; depth++) {
+        strcat(deep, "sin(");
+    }
+    show_text(strcat(deep, "f32"));
+    const uint8_t no_leaf[] = {0, NO_LEAF};
+    const uint8_t cut_short[] = {1, SIN};
+    show_written("no leaf", no_leaf, sizeof no_leaf, ENOUGH_TEXT);
+    show_written("cut short", cut_short, sizeof cut_short, ENOUGH_TEXT);
     /* Pow's rules: two arguments of one type, scalar or vector, of a float. */
     show_regular(2, 0xf, 0x702, 0);
     show_list("Mix", MIX);

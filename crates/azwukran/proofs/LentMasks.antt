@@ -5,7 +5,7 @@ use Prim.Native.Nat.{ℕ}
 use Rattle.scalars.specs.Paper.{Paper, accepted, refused, verdictPaper}
 use Rattle.scalars.specs.declared.answer.Verdict.{Verdict}
 use Rattle.scalars.specs.declared.refusal.Refusal.{Refusal}
-use Rattle.lent_masks.specs.Masks.{roomFor, lentAfter}
+use Rattle.lending.specs.Masks.{roomFor, lentAfter}
 use Rattle.c_answers.specs.Answers.{maskForC}
 use Rattle.c_answers.specs.declared.answers.MaskForC.{MaskForC}
 use Rattle.azwukran.specs.Lent.{inRoom, lentBy}

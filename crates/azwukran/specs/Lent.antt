@@ -3,7 +3,7 @@ use mathlib.Core.List.{List, [], _∷_}
 use Prim.Native.Nat.{ℕ}
 use lib.ListN.{getD}
 use Rattle.scalars.specs.Paper.{Paper, accepted, refusal, whenAccepted}
-use Rattle.lent_masks.specs.Masks.{roomFor, lentAfter}
+use Rattle.lending.specs.Masks.{roomFor, lentAfter}
 
 -- its own refusal, then 10 with the bytes needed where there are fewer
 unfoldable pub inRoom : ℕ → List ℕ → Paper → Paper

@@ -8,7 +8,7 @@ ghost use Rattle.azwukran.specs.Lent.{membersLeft, inRoom, lentBy};
 use c_answers::MaskForC;
 use c_answers::mask_for_c;
 use calls::Survivors;
-use lent_masks::lend_mask;
+use lending::lend_mask;
 use lists::ListAnswer;
 use scalars::Verdict;
 

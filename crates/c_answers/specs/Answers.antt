@@ -4,6 +4,7 @@ use Rattle.c_answers.specs.declared.answers.ChosenForC.{ChosenForC}
 use Rattle.c_answers.specs.declared.answers.RuleForC.{RuleForC}
 use Rattle.c_answers.specs.declared.answers.RegularForC.{RegularForC}
 use Rattle.c_answers.specs.declared.answers.ConsensusForC.{ConsensusForC}
+use Rattle.c_answers.specs.declared.answers.TextForC.{TextForC}
 use Rattle.c_answers.specs.declared.answers.TypeForC.{TypeForC}
 use Rattle.c_answers.specs.declared.answers.RunForC.{RunForC}
 use Rattle.c_answers.specs.declared.answers.MaskForC.{MaskForC}
@@ -29,6 +30,10 @@ consensusForC p = record { number = number p; scalar = value 0 p; giver = unused
 -- the type of an expression, and its worksheet's length; the mark is kept free
 unfoldable pub typeForC : Paper → TypeForC
 typeForC p = record { number = number p; code = value 0 p; mark = unused; length = value 1 p; place = place p }
+
+-- a text read or written: how many bytes were put into the lent ones
+unfoldable pub textForC : Paper → TextForC
+textForC p = record { number = number p; length = value 0 p; place = place p }
 
 -- a run: how many operands are left, and the topmost one's type; the mark is kept free
 unfoldable pub runForC : Paper → RunForC

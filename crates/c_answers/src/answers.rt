@@ -76,6 +76,15 @@ pub struct TypeForC {
     pub place: usize,
 }
 
+// An expression's bytes or its text, which stand in lent bytes.
+#[repr(C)]
+pub struct TextForC {
+    pub number: u8,
+    // How many bytes were put there.
+    pub length: usize,
+    pub place: usize,
+}
+
 // How a worksheet ran: number 0 for an end, 255 for a stop, whose line is the place.
 #[repr(C)]
 pub struct RunForC {

@@ -15,6 +15,7 @@ pub use answers::RegularForC;
 pub use answers::RuleForC;
 pub use answers::RunForC;
 pub use answers::STOPPED;
+pub use answers::TextForC;
 pub use answers::TypeForC;
 pub use from_answers::chosen_for_c;
 pub use from_answers::consensus_for_c;

@@ -16,7 +16,7 @@ use Rattle.lists.specs.List.{acceptedList, noListValues}
 use Rattle.lists.specs.declared.list.List.{List}
 use Rattle.lists.specs.declared.list.ListAnswer.{ListAnswer}
 use Rattle.lists.proofs.ChosenPapers.{list-values-one}
-use Rattle.lent_masks.specs.Masks.{maskRead}
+use Rattle.lending.specs.Masks.{maskRead}
 use Rattle.c_sets.specs.Sets.{byteRules, rulesHanded, ofList}
 
 -- the List as it was handed in

@@ -16,7 +16,7 @@ use Rattle.regular.specs.declared.regular.Regular.{Regular}
 use Rattle.functions.specs.Functions.{ruleIn}
 use Rattle.lists.specs.List.{mostRules}
 use Rattle.lists.specs.declared.list.List.{List}
-use Rattle.lent_masks.specs.Masks.{maskRead}
+use Rattle.lending.specs.Masks.{maskRead}
 
 -- ---- a Regular set: arity, the two masks, the conclusion's number
 

@@ -11,7 +11,7 @@ use lib.Dec.{eqb, leb, ltb}
 use lib.ListN.{length, drop, length-append, drop-of-length-le}
 use Rattle.scalars.specs.Mask.{choose}
 use Rattle.expressions.specs.Tree.{Tree, Trees, call, more, count, bytesOf, bytesOfAll, nodes, nodesAll, mostNodes, deepest, lastLeaf, leafTag, callTag}
-use Rattle.expressions.specs.private.Known.{Known, KnownAll}
+use Rattle.expressions.specs.Known.{Known, KnownAll}
 use Rattle.expressions.specs.Reading.{Reading, done, refused, Expression, read, refusedAs, demand, andThen, argsAt, present, byteAt, leafAt, callAt, taggedAt, nodeAt, whole, expressionOf}
 use Rattle.expressions.proofs.Bytes.{head-at}
 

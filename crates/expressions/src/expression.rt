@@ -3,7 +3,8 @@
 // Leaf: 0, type code. Call: 1, function, number of arguments, then the arguments. A node is read through its arguments and the
 // arguments through their nodes, so `read_node` and `read_arguments` call each other. They end because the unread bytes grow
 // fewer, and since no more than 64 nodes are passed, few calls are open at once. No tree is built: a reading is the offset that it
-// got to and the number of nodes that it has passed. Bytes of any number and any value may be handed in.
+// got to and the number of nodes that it has passed. Bytes of any number and any value may be handed in. A step names the three faults
+// itself and holds no `Refusal`, because an enum within an enum is copied piece by piece at every return.
 
 ghost use mathlib.Core.Path.{_≡_};
 ghost use Prim.Native.Nat.{_<_};
@@ -17,14 +18,14 @@ use scalars::Refusal;
 // An expression has at most so many nodes.
 pub const MOST_NODES: usize = 64;
 // The root has depth 1, the deepest node this one.
-const DEEPEST: usize = 16;
+pub const DEEPEST: usize = 16;
 // The type codes of leaves are 0 to this one.
 pub const LAST_LEAF: u8 = 156;
 
 // The tag of a leaf.
 pub const LEAF: u8 = 0;
 // The tag of a call.
-const CALL: u8 = 1;
+pub const CALL: u8 = 1;
 
 // What the first pass answers.
 pub enum Read {
@@ -34,12 +35,16 @@ pub enum Read {
     Refused(Refusal),
 }
 
-// Where a reading got to.
+// Where a reading got to, or the first fault.
 enum Step {
     // The offset behind what was read, and the nodes passed since the expression's front.
     Past(usize, usize),
-    // The first fault.
-    Fault(Refusal),
+    // Refusal 7 at this byte offset.
+    Unknown(usize),
+    // Refusal 8 at this byte offset.
+    IllFormed(usize),
+    // Refusal 9 at this byte offset.
+    TooLarge(usize),
 }
 
 // Reads a whole expression of calls to so many functions: its number of nodes, or the first fault from front to back. Bytes left over
@@ -49,7 +54,9 @@ pub fn read_expression(bytes: &[u8], functions: u8) -> Read
 {
     let root = read_node(bytes, 0, 0, 1, functions);
     match root {
-        Step::Fault(fault) => Read::Refused(fault),
+        Step::Unknown(place) => Read::Refused(Refusal::Unknown(place)),
+        Step::IllFormed(place) => Read::Refused(Refusal::IllFormed(place)),
+        Step::TooLarge(place) => Read::Refused(Refusal::TooLarge(place)),
         Step::Past(at, nodes) => {
             if at < bytes.len() {
                 return Read::Refused(Refusal::IllFormed(at));
@@ -64,13 +71,13 @@ fn read_node(bytes: &[u8], at: usize, nodes: usize, depth: usize, functions: u8)
     ensures { λ r. ⌜ stepPaper r ≡ stepOf (nodeAt functions (now (bytes .entry)) (levelsLeft depth) at nodes) ⌝ }
 {
     if bytes.len() <= at {
-        return Step::Fault(Refusal::IllFormed(at));
+        return Step::IllFormed(at);
     }
     if MOST_NODES <= nodes {
-        return Step::Fault(Refusal::TooLarge(at));
+        return Step::TooLarge(at);
     }
     if DEEPEST < depth {
-        return Step::Fault(Refusal::TooLarge(at));
+        return Step::TooLarge(at);
     }
     let tag = bytes[at];
     if tag == LEAF {
@@ -79,19 +86,19 @@ fn read_node(bytes: &[u8], at: usize, nodes: usize, depth: usize, functions: u8)
     if tag == CALL {
         let function = at + 1;
         if bytes.len() <= function {
-            return Step::Fault(Refusal::IllFormed(function));
+            return Step::IllFormed(function);
         }
         if functions <= bytes[function] {
-            return Step::Fault(Refusal::Unknown(function));
+            return Step::Unknown(function);
         }
         let count = at + 2;
         if bytes.len() <= count {
-            return Step::Fault(Refusal::IllFormed(count));
+            return Step::IllFormed(count);
         }
         let left = bytes[count] as usize;
         return read_arguments(bytes, at + 3, left, nodes + 1, depth + 1, functions);
     }
-    Step::Fault(Refusal::IllFormed(at))
+    Step::IllFormed(at)
 }
 
 // Reads `left` nodes one after the other, each at the depth `depth`.
@@ -110,7 +117,9 @@ fn read_arguments(
     }
     let one = read_node(bytes, at, nodes, depth, functions);
     match one {
-        Step::Fault(fault) => Step::Fault(fault),
+        Step::Unknown(place) => Step::Unknown(place),
+        Step::IllFormed(place) => Step::IllFormed(place),
+        Step::TooLarge(place) => Step::TooLarge(place),
         Step::Past(next, passed) => read_arguments(bytes, next, left - 1, passed, depth, functions),
     }
 }
@@ -122,10 +131,10 @@ fn read_leaf(bytes: &[u8], at: usize, nodes: usize) -> Step
 {
     let code = at + 1;
     if bytes.len() <= code {
-        return Step::Fault(Refusal::IllFormed(code));
+        return Step::IllFormed(code);
     }
     if LAST_LEAF < bytes[code] {
-        return Step::Fault(Refusal::Unknown(code));
+        return Step::Unknown(code);
     }
     Step::Past(at + 2, nodes + 1)
 }

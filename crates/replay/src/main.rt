@@ -2,8 +2,8 @@
 //
 // Each list of answers is a file of data/ and a file of src/ under the same name, which holds one public function, `agrees`: whether our
 // answer to a record's question is the stored one. The lists of expressions, `worksheets`, `room` and `limits`, share `typings`.
-// `stored_lists` names them all; `boundary` and `limits` hold document 01's answers in place of the crate's. docs/STORED.md says what the
-// records hold.
+// `stored_lists` names them all; `boundary` and `limits` hold document 01's answers in place of the crate's, which knows no texts: those of
+// `texts` are by a reader and a writer of the comparison's own. docs/STORED.md says what the records hold.
 
 mod agreement;
 mod allowed;
@@ -24,6 +24,7 @@ mod set_answers;
 mod steps;
 mod stored_lists;
 mod tally;
+mod texts;
 mod typings;
 mod walk;
 
@@ -58,9 +59,10 @@ fn calls() {
     replay(StoredList::Allowed, b"allowed");
 }
 
-// Expressions.
+// Expressions, and their texts.
 fn expressions() {
     replay(StoredList::Expressions, b"worksheets");
     replay(StoredList::Expressions, b"room");
     replay(StoredList::Expressions, b"limits");
+    replay(StoredList::Texts, b"texts");
 }

@@ -10,6 +10,7 @@ use crate::convertible;
 use crate::handsets;
 use crate::named_sets;
 use crate::refused;
+use crate::texts;
 use crate::typings;
 
 pub enum StoredList {
@@ -24,6 +25,7 @@ pub enum StoredList {
     Allowed,
     // The lists of expressions, whose records have one form.
     Expressions,
+    Texts,
 }
 
 // Whether our answer to the record's question is the stored one. A record of another form than its list's does not agree.
@@ -39,6 +41,7 @@ pub fn agrees(list: StoredList, record: &[u8]) -> bool {
         StoredList::Refused => refused::agrees(record),
         StoredList::Allowed => allowed::agrees(record),
         StoredList::Expressions => typings::agrees(record),
+        StoredList::Texts => texts::agrees(record),
     }
 }
 

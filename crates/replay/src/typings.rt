@@ -89,7 +89,7 @@ fn answer_agrees(answer: TypeAnswer, number: u8, place: usize, t: u8, sheet: &[u
 }
 
 // Whether the sheet stands in front of the bytes, and nothing was written behind it.
-fn holds(bytes: &[u8], sheet: &[u8]) -> bool {
+pub fn holds(bytes: &[u8], sheet: &[u8]) -> bool {
     if bytes.len() < sheet.len() {
         return false;
     }

@@ -1,7 +1,7 @@
--- 'Answers by number': the number and the place of each refusal.
+-- 'Answers by number', and document 02's requests: the number and the place of each refusal.
 use Prim.Native.Nat.{ℕ}
 use Rattle.scalars.specs.declared.refusal.Refusal.{Refusal}
-use Rattle.scalars.specs.declared.refusal.Refusal.the-variants.{EmptySet, SeveralConstructors, TooMany, NoSuchArgument, WrongCount, NoRuleLeft, Unknown, IllFormed, TooLarge, NoRoom, NothingToCombine, NoConsensus, NoConclusion}
+use Rattle.scalars.specs.declared.refusal.Refusal.the-variants.{EmptySet, SeveralConstructors, TooMany, NoSuchArgument, WrongCount, NoRuleLeft, Unknown, IllFormed, TooLarge, NoRoom, NothingToCombine, NoConsensus, NoConclusion, UnknownRun, Misplaced}
 
 -- number, and place
 abbrev pub numbered : Refusal → ℕ × ℕ
@@ -18,3 +18,5 @@ numbered (NoRoom p) = (10, p)
 numbered NothingToCombine = (11, 0)
 numbered (NoConsensus p) = (12, p)
 numbered NoConclusion = (13, 0)
+numbered (UnknownRun p) = (14, p)
+numbered (Misplaced p) = (15, p)

@@ -1,4 +1,4 @@
-// The refusals of document 01's table, 'Answers by number'.
+// The refusals of document 01's table, 'Answers by number', and of document 02's requests.
 //
 // The crate panics, asserts or hands out an index; here each of these is an answer with a number and a place. A case that has a
 // place of its own carries it: a byte offset, an index, or the bytes that are needed. The other cases stand at place 0.
@@ -25,7 +25,7 @@ pub enum Refusal {
     IllFormed(usize),
     // 9: one node too many, or one level too deep.
     TooLarge(usize),
-    // 10: a worksheet longer than the lent buffer; the place is the bytes needed.
+    // 10: a worksheet, an expression or a text longer than the lent buffer; the place is the bytes needed.
     NoRoom(usize),
     // 11: a consensus over nothing, with no base.
     NothingToCombine,
@@ -33,10 +33,14 @@ pub enum Refusal {
     NoConsensus(usize),
     // 13: a Frexp or Modf conclusion for a matrix, or for a scalar but F32, F16 and F64.
     NoConclusion,
+    // 14: in a text, an unknown run where a node may begin.
+    UnknownRun(usize),
+    // 15: in a text, a token that is misplaced or missing, or a text that is too long.
+    Misplaced(usize),
 }
 
 impl Refusal {
-    // The refusal's number, 1 to 13.
+    // The refusal's number, 1 to 15.
     pub fn number(self) -> u8
         ensures { λ r. ⌜ r ≡ numbered self .0 ⌝ }
     {
@@ -54,6 +58,8 @@ impl Refusal {
             Refusal::NothingToCombine => 11,
             Refusal::NoConsensus(_) => 12,
             Refusal::NoConclusion => 13,
+            Refusal::UnknownRun(_) => 14,
+            Refusal::Misplaced(_) => 15,
         }
     }
 
@@ -75,6 +81,8 @@ impl Refusal {
             Refusal::NothingToCombine => 0,
             Refusal::NoConsensus(at) => at,
             Refusal::NoConclusion => 0,
+            Refusal::UnknownRun(at) => at,
+            Refusal::Misplaced(at) => at,
         }
     }
 }

@@ -9,7 +9,7 @@ use lib.ListN.{length}
 use Rattle.expressions.specs.Tree.{Tree, bytesOf, deepest}
 use Rattle.expressions.specs.Reading.{read, whole, expressionOf}
 use Rattle.expressions.proofs.Sound.{read-spelt}
-use Rattle.theorems.specs.Limits.{WellFormed}
+use Rattle.expressions.specs.Limits.{WellFormed}
 use Rattle.theorems.proofs.Levels.{read-low}
 use Rattle.theorems.proofs.Complete.{node-complete}
 

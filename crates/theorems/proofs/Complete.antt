@@ -7,8 +7,8 @@ use native.Mathlib.Omega.{arith}
 use borrow.Author.Tests.{le-leb, lt-ltb}
 use lib.ListN.{length, drop, length-append}
 use Rattle.expressions.specs.Tree.{Tree, Trees, leaf, call, none, more, count, bytesOf, bytesOfAll, nodes, nodesAll, mostNodes, lastLeaf}
-use Rattle.theorems.specs.Limits.{levels, levelsAll}
-use Rattle.expressions.specs.private.Known.{Known, KnownAll}
+use Rattle.expressions.specs.Limits.{levels, levelsAll}
+use Rattle.expressions.specs.Known.{Known, KnownAll}
 use Rattle.expressions.specs.Reading.{done, andThen, argsAt, leafAt, callAt, taggedAt, nodeAt}
 use Rattle.expressions.proofs.Bytes.{after, leaf-there, call-there}
 use Rattle.expressions.proofs.Sound.{followed}

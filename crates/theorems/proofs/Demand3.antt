@@ -15,7 +15,7 @@ use Rattle.functions.specs.Functions.{functionCount, listingOf}
 use Rattle.functions.proofs.Database.{one-length}
 use Rattle.theorems.specs.Taking.{OneLength}
 use Rattle.expressions.specs.Tree.{Tree}
-use Rattle.theorems.specs.Limits.{WellFormed}
+use Rattle.expressions.specs.Limits.{WellFormed}
 use Rattle.machine.specs.Line.{Line, encode}
 use Rattle.machine.specs.Machine.{ended, step, runBy}
 use Rattle.worksheet.specs.Typer.{Typed, typed, refused, typeOf}

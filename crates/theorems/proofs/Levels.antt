@@ -9,7 +9,7 @@ use Rattle.scalars.specs.Mask.{choose}
 use Rattle.expressions.specs.Tree.{Tree, Trees, call, more, mostNodes, deepest, lastLeaf, leafTag, callTag}
 use Rattle.expressions.specs.Reading.{Reading, done, refused, Expression, read, refusedAs, andThen, argsAt, present, byteAt, leafAt, callAt, taggedAt, nodeAt, whole, expressionOf}
 use Rattle.expressions.proofs.Sound.{followed}
-use Rattle.theorems.specs.Limits.{levels, levelsAll}
+use Rattle.expressions.specs.Limits.{levels, levelsAll}
 
 -- a tree that is handed back, or trees, of at most d levels; a refusal claims nothing
 abbrev Low : ℕ → Reading Tree → Type 0

@@ -44,3 +44,15 @@ pub mod Runs
 pub mod Demand3
 pub mod Expressions
 pub mod Readings
+-- texts
+pub mod TextTokens
+pub mod TextWords
+pub mod TextComplete
+pub mod TextSound
+pub mod TextWritten
+pub mod TextExact
+pub mod TextLocal
+pub mod TextFaults
+pub mod Texts
+pub mod TextFunctions
+pub mod TextReadings

@@ -11,7 +11,9 @@ use Rattle.theorems.proofs.AnyPapers.{any-one}
 use Rattle.theorems.proofs.ChosenPapers.{list-one, chosen-one}
 use Rattle.theorems.proofs.SurvivorsPapers.{survivors-one}
 use Rattle.calls.proofs.OutcomePapers.{outcome-one}
-use Rattle.lent_masks.proofs.MaskPapers.{mask-one}
+use Rattle.lending.proofs.MaskPapers.{mask-one}
+use Rattle.names.proofs.WordPapers.{word-one}
+use Rattle.text.proofs.TextPapers.{text-one}
 use Rattle.theorems.proofs.RunPapers.{run-one}
 use Rattle.theorems.proofs.TypedPapers.{type-one}
 use Rattle.theorems.specs.OneAnswer.{EachFunction}
@@ -114,9 +116,18 @@ each-function = record {
   «outcome_of» = λ κs a x y v w p q. (outcome-one x y (p ∙ sym q), refl);
   «survivors_of» = λ κs a x y v w p q. (survivors-one x y (p ∙ sym q), refl);
   «full_list» = λ κs a x y v w p q. (p ∙ sym q, refl);
-  -- lent_masks
+  -- lending
+  «lend_bytes» = λ κs a x y v w p q. (verdict-one x y (p .0 ∙ sym (q .0)), ap (λ l. (tt, (l, tt))) (p .1 ∙ sym (q .1)));
   «mask_in» = λ κs a x y v w p q. (mask-one x y (p ∙ sym q), refl);
   «lend_mask» = λ κs a x y v w p q. (verdict-one x y (p .0 ∙ sym (q .0)), ap (λ l. (tt, (tt, (l, tt)))) (p .1 ∙ sym (q .1)));
+  -- names
+  «built_in_names» = λ κs a x y v w p q. (p ∙ sym q, refl);
+  «built_in_index» = λ κs a x y v w p q. (p ∙ sym q, refl);
+  «spelling» = λ κs a x y v w p q. (p ∙ sym q, refl);
+  «word_of» = λ κs a x y v w p q. (word-one x y (p ∙ sym q), refl);
+  -- text
+  «read_text» = λ κs a x y v w p q. (text-one x y (p .0 ∙ sym (q .0)), ap (λ l. (tt, (l, tt))) (p .1 ∙ sym (q .1)));
+  «write_text» = λ κs a x y v w p q. (text-one x y (p .0 ∙ sym (q .0)), ap (λ l. (tt, (l, tt))) (p .1 ∙ sym (q .1)));
   -- c_sets
   «list_arg» = λ κs a x y v w p q. (list-one x y (p ∙ sym q), refl);
   «list_concrete_only» = λ κs a x y v w p q. (list-one x y (p ∙ sym q), refl);
@@ -150,5 +161,7 @@ each-function = record {
   «azwukran_rule» = λ κs a x y v w p q. (p ∙ sym q, refl);
   «azwukran_consensus» = λ κs a x y v w p q. (p ∙ sym q, refl);
   «azwukran_type» = λ κs a x y v w p q. (p .0 ∙ sym (q .0), ap (λ l. (tt, (tt, (l, tt)))) (p .1 ∙ sym (q .1)));
+  «azwukran_read_text» = λ κs a x y v w p q. (p .0 ∙ sym (q .0), ap (λ l. (tt, (l, tt))) (p .1 ∙ sym (q .1)));
+  «azwukran_write_text» = λ κs a x y v w p q. (p .0 ∙ sym (q .0), ap (λ l. (tt, (l, tt))) (p .1 ∙ sym (q .1)));
   «azwukran_run» = λ κs a x y v w p q. (p ∙ sym q, refl);
 }

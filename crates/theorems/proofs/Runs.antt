@@ -15,7 +15,7 @@ use Rattle.rules.specs.Signature.{Signature, reaches}
 use Rattle.theorems.specs.Taking.{Takes}
 use Rattle.expressions.specs.Tree.{Tree, Trees, leaf, call, more, nodes, nodesAll, lastLeaf}
 use Rattle.expressions.specs.Tree as trees
-use Rattle.expressions.specs.private.Known.{Known, KnownAll}
+use Rattle.expressions.specs.Known.{Known, KnownAll}
 use Rattle.machine.specs.Line.{Line, leafLine, conversionLine, callLine, conversions, callLines, fourBytes, encode, linesOf}
 use Rattle.machine.specs.Machine.{Outcome, Stepper, ended, mostOperands, convertAt, apply, next, stepIf, runBy, step}
 use Rattle.theorems.specs.Meaning.{Gives, leafGives, callGives, GiveAll, noneGive, moreGive}

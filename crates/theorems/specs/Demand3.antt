@@ -20,7 +20,7 @@ use lib.ListN.{length}
 use Rattle.rules.specs.Signature.{Signature}
 use Rattle.theorems.specs.Taking.{OneLength}
 use Rattle.expressions.specs.Tree.{Tree}
-use Rattle.theorems.specs.Limits.{WellFormed}
+use Rattle.expressions.specs.Limits.{WellFormed}
 use Rattle.machine.specs.Line.{Line, encode}
 use Rattle.machine.specs.Machine.{ended, step, runBy, runBytes}
 use Rattle.worksheet.specs.Typer.{typed, refused, typeOf}

@@ -18,7 +18,7 @@ use lib.ListN.{length, take, drop}
 use Rattle.scalars.specs.Paper as paper
 use Rattle.functions.specs.Functions.{functionCount, listingOf}
 use Rattle.expressions.specs.Tree.{Tree, bytesOf}
-use Rattle.theorems.specs.Limits.{WellFormed}
+use Rattle.expressions.specs.Limits.{WellFormed}
 use Rattle.machine.specs.Line.{Line, encode}
 use Rattle.machine.specs.Run.{runPaper}
 use Rattle.machine.proofs as machine

@@ -11,7 +11,7 @@ use Prim.Native.Nat.{ℕ, _+_, _*_, _≤_}
 use lib.ListN.{take}
 use Rattle.expressions.specs.Tree.{Tree, bytesOf, mostNodes}
 use Rattle.expressions.specs.Reading.{read, expressionOf}
-use Rattle.theorems.specs.Limits.{WellFormed}
+use Rattle.expressions.specs.Limits.{WellFormed}
 
 -- the bytes that are looked at
 abbrev pub looked : ℕ

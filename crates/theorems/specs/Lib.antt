@@ -1,7 +1,7 @@
 -- All that is claimed: the demands as theorems, each stated in English at the head of its file. Of the public functions, said of every answer
--- that their contracts permit: OneAnswer, Consensus, Agreement over Operations, Calls (Demand 2), Expressions (Demand 3). Of the definitions
--- that the contracts cite, over any database of rules: Expands, Steps, Demand2, FirstPass, Demand3, Readings. The others are words that
--- statements share.
+-- that their contracts permit: OneAnswer, Consensus, Agreement over Operations, Calls (Demand 2), Expressions (Demand 3),
+-- TextFunctions. Of the definitions that the contracts cite, over any database of rules: Expands, Steps, Demand2, FirstPass, Demand3, Readings;
+-- of texts, Texts and TextReadings. The others are words that statements share.
 pub mod Contracts
 pub mod Known
 pub mod OneAnswer
@@ -13,10 +13,12 @@ pub mod Agreement
 pub mod Taking
 pub mod Demand2
 pub mod Calls
-pub mod Limits
 pub mod FirstPass
 pub mod Meaning
 pub mod Fault
 pub mod Demand3
 pub mod Expressions
 pub mod Readings
+pub mod Texts
+pub mod TextFunctions
+pub mod TextReadings

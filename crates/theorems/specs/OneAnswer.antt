@@ -18,7 +18,9 @@ use Rattle.lists.proofs as lists
 use Rattle.lists.proofs.any_overload_set as any_overload_set
 use Rattle.lists.proofs.list as list
 use Rattle.calls.proofs as calls
-use Rattle.lent_masks.proofs as lent_masks
+use Rattle.lending.proofs as lending
+use Rattle.names.proofs as names
+use Rattle.text.proofs as text
 use Rattle.c_sets.proofs as c_sets
 use Rattle.machine.proofs as machine
 use Rattle.worksheet.proofs as worksheet
@@ -129,9 +131,22 @@ pub record EachFunction : Type 0 where
   pub «outcome_of» : OneAnswer calls.outcome_of.ended calls.outcome_of.Reads.Post
   pub «survivors_of» : OneAnswer calls.survivors_of.ended calls.survivors_of.Reads.Post
   pub «full_list» : OneAnswer calls.full_list.ended calls.full_list.Reads.Post
-  -- lent_masks
-  pub «mask_in» : OneAnswer lent_masks.mask_in.ended lent_masks.mask_in.Reads.Post
-  pub «lend_mask» : OneAnswer lent_masks.lend_mask.ended lent_masks.lend_mask.Reads.Post
+  -- lending
+  pub «lend_bytes» : OneAnswer lending.lend_bytes.ended lending.lend_bytes.Reads.Post
+  pub «mask_in» : OneAnswer lending.mask_in.ended lending.mask_in.Reads.Post
+  pub «lend_mask» : OneAnswer lending.lend_mask.ended lending.lend_mask.Reads.Post
+  -- names
+  pub «built_in_names» : OneAnswer names.built_in_names.ended names.built_in_names.Reads.Post
+  pub «built_in_index» : OneAnswer names.built_in_index.ended names.built_in_index.Reads.Post
+  -- of a part that is handed out, its bytes: no contract speaks of where they stand
+  pub «spelling» : (κs : Lfts (names.spelling.ended .signature .lifetimes)) (a : Args (names.spelling.ended .signature) κs)
+      (x y : Res (names.spelling.ended .signature) κs) (v w : Lasts names.spelling.ended κs a)
+      → names.spelling.Reads.Post κs a x (atExit names.spelling.ended κs a v)
+      → names.spelling.Reads.Post κs a y (atExit names.spelling.ended κs a w) → (x .now ≡ y .now) × (v ≡ w)
+  pub «word_of» : OneAnswer names.word_of.ended names.word_of.Reads.Post
+  -- text
+  pub «read_text» : OneAnswer text.read_text.ended text.read_text.Reads.Post
+  pub «write_text» : OneAnswer text.write_text.ended text.write_text.Reads.Post
   -- c_sets
   pub «list_arg» : OneAnswer c_sets.list_arg.ended c_sets.list_arg.Reads.Post
   pub «list_concrete_only» : OneAnswer c_sets.list_concrete_only.ended c_sets.list_concrete_only.Reads.Post
@@ -165,4 +180,6 @@ pub record EachFunction : Type 0 where
   pub «azwukran_rule» : OneAnswer azwukran.azwukran_rule.ended azwukran.azwukran_rule.Reads.Post
   pub «azwukran_consensus» : OneAnswer azwukran.azwukran_consensus.ended azwukran.azwukran_consensus.Reads.Post
   pub «azwukran_type» : OneAnswer azwukran.azwukran_type.ended azwukran.azwukran_type.Reads.Post
+  pub «azwukran_read_text» : OneAnswer azwukran.azwukran_read_text.ended azwukran.azwukran_read_text.Reads.Post
+  pub «azwukran_write_text» : OneAnswer azwukran.azwukran_write_text.ended azwukran.azwukran_write_text.Reads.Post
   pub «azwukran_run» : OneAnswer azwukran.azwukran_run.ended azwukran.azwukran_run.Reads.Post

@@ -1,16 +1,21 @@
 // Types the expression on standard input: prints number, place and type, and then the worksheet, a line for each four bytes. A refusal
 // prints its first line only, with type 255. The concrete-only switch is off, and the buffer always suffices.
 //
-// What is answered depends on at most the first 193 bytes of the input, so the program keeps the first 4,096 and reads the rest to its
-// end without keeping it.
+// The expression comes in bytes, or as text, and its first byte tells which: 0 or 1 begin bytes, and so does an empty input; anything else
+// is text. Places are offsets in the text while it is read, and offsets in the bytes that it spells afterwards. What is answered depends on
+// at most the first 4,097 bytes of the input, so the program keeps the first 65,536 and reads the rest to its end without keeping it.
 
 ghost use mathlib.Core.Path.{_≡_};
 ghost use Prim.Native.Nat.{_≤_};
 ghost use lib.ListN.{length};
 ghost use Rattle.worksheet.specs.private.Sheet.{enoughBytes};
+use expressions::CALL;
 use libc::STDIN_FILENO;
 use libc::STDOUT_FILENO;
+use scalars::Refusal;
 use scalars::UNUSED;
+use text::TextAnswer;
+use text::read_text;
 use worksheet::ENOUGH_BYTES;
 use worksheet::TypeAnswer;
 use worksheet::type_expression;
@@ -19,22 +24,60 @@ use worksheet::type_expression;
 const LINE: usize = 4;
 
 fn main() {
-    let mut space = io::buffer();
+    let mut space = io::large_buffer();
     let n = io::read_full(STDIN_FILENO, &mut space);
     skip_rest();
     let mut sheet = room();
     answer(&space[..n], &mut sheet);
 }
 
-// Types the input into the sheet and prints what came out.
+// Types the input, in either form, into the sheet and prints what came out.
 fn answer(input: &[u8], sheet: &mut [u8]) {
+    if is_text(input) {
+        let mut bytes = io::buffer();
+        answer_text(input, &mut bytes, sheet);
+        return;
+    }
+    answer_bytes(input, sheet);
+}
+
+// Whether an input is a text: no tag of an expression's first byte begins it.
+fn is_text(input: &[u8]) -> bool {
+    if input.len() == 0 {
+        return false;
+    }
+    CALL < input[0]
+}
+
+// Reads a text into the bytes, which always suffice, and types those.
+fn answer_text(text: &[u8], bytes: &mut [u8], sheet: &mut [u8]) {
+    match read_text(text, bytes) {
+        TextAnswer::Refused(why) => print_refusal(why),
+        TextAnswer::Made(len) => answer_front(bytes, len, sheet),
+    }
+}
+
+// Types the first `len` bytes.
+fn answer_front(bytes: &[u8], len: usize, sheet: &mut [u8])
+    requires { ⌜ len ≤ length (now bytes) ⌝ }
+{
+    answer_bytes(&bytes[..len], sheet);
+}
+
+// Types an expression in bytes into the sheet and prints what came out.
+fn answer_bytes(input: &[u8], sheet: &mut [u8]) {
     match type_expression(input, false, sheet) {
-        TypeAnswer::Refused(why) => print_answer(why.number(), why.place(), UNUSED),
+        TypeAnswer::Refused(why) => print_refusal(why),
         TypeAnswer::Typed { code, len } => {
             print_answer(0, 0, code);
             print_sheet(sheet, len);
         }
     }
+}
+
+// The line of a refusal.
+fn print_refusal(why: Refusal) {
+    print_answer(why.number(), why.place(), UNUSED);
 }
 
 // Room for any worksheet.

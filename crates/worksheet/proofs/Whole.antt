@@ -19,17 +19,16 @@ use Rattle.expressions.specs.Reading.{read, expressionOf, readOf}
 use Rattle.machine.specs.Line.{Line, encode}
 use Rattle.worksheet.specs.Typer.{Typed, typed, refused, typeOf}
 use Rattle.worksheet.specs.Answer.{withRoom, bufferAfter}
-use Rattle.worksheet.specs.private.Sheet.{enoughBytes, written, roomFor, placed}
+use Rattle.worksheet.specs.private.Sheet.{written}
 use Rattle.worksheet.specs.Typing.{typingOf, typing, noType, answerOf}
 use Rattle.worksheet.specs.private.Stack.{typesOn}
 use Rattle.worksheet.specs.private.SecondPass.{NodeThere, NodeClaim, NodeTyped, SheetFits, roomAnswer, rootAnswer, rootBuffer}
 use Rattle.expressions.proofs.Sound.{Spelt, read-spelt}
 use Rattle.expressions.proofs.Answers.{accepted-tree, refused-fault}
-use Rattle.worksheet.proofs.Room.{four-each}
 use Rattle.worksheet.proofs.Pushes.{empty-full}
-use Rattle.worksheet.proofs.Typings.{Sized, sized}
 use Rattle.worksheet.proofs.Passes.{clash}
-use Rattle.worksheet.proofs.Written.{placed-short, placed-fits}
+use Rattle.lending.specs.Bytes.{roomFor, placed}
+use Rattle.lending.proofs.Placed.{placed-short, placed-fits}
 
 -- an answer and a buffer that are those of a typing
 abbrev Answered : List ℕ → Typed ℕ → Paper → List ℕ → Type 0
@@ -85,11 +84,12 @@ module _ (switch : Bool) (s d : List ℕ) where
         pub root-fits : SheetFits r
         root-fits clean =
             let (e, x, text, spelt) = tree in
-            go e spelt (typeOf listingOf switch e 0) (claim e text) (sized switch e 0)
+            go e (typeOf listingOf switch e 0) (claim e text)
           where
-            go : (e : Tree) → Spelt functionCount s e → (x : Typed ℕ) → NodeClaim e 0 st h r x → Sized e x → r .sheet .len ≤ enoughBytes
-            go e spelt (refused k p) c z = clash clean c
-            go e spelt (typed t ls) c z = omega (arith, c .wrote .len-is, four-each ls, z .few, spelt .few)
+            go : (e : Tree) (x : Typed ℕ) → NodeClaim e 0 st h r x → length (written (r .sheet)) ≡ r .sheet .len
+            go e (refused k p) c = clash clean c
+            go e (typed t ls) c =
+                ap length (c .wrote .bytes-are ∙ ap (λ i. take i (h .bytes) ++ encode ls) len) ∙ omega (arith, c .wrote .len-is, len)
 
         -- the second pass is the typing of the tree, without the room
         typed-root : (e : Tree) (x : Typed ℕ) → NodeClaim e 0 st h r x → Answered d (withRoom d x) (rootAnswer r (length d)) (rootBuffer r d)

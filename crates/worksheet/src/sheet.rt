@@ -1,14 +1,12 @@
-// A bounded run of bytes that is written front to back, and its one way into lent memory.
+// A bounded run of bytes that is written front to back.
 //
-// A worksheet is written here first and copied out once, when its whole length is known to fit: so a refusal leaves the lent
-// buffer as it was. Bytes are put one at a time, and four of them make a line.
+// A worksheet is written here first and lent once, when its whole length is known to fit: so a refusal leaves the lent buffer as it was.
+// Bytes are put one at a time, and four of them make a line.
 
 ghost use mathlib.Core.Path.{_≡_};
 ghost use mathlib.Core.List.{[], _∷_};
 ghost use Prim.Native.Nat.{_+_, _≤_, _<_};
-ghost use lib.ListN.{length, take};
-ghost use Rattle.worksheet.specs.private.Sheet.{enoughBytes};
-ghost use Rattle.worksheet.specs.private.Sheet.{Wrote, roomFor, placed};
+ghost use Rattle.worksheet.specs.private.Sheet.{enoughBytes, Wrote};
 
 // So many bytes hold the worksheet of any expression within the limits: fewer than two lines for each of `MOST_NODES` nodes.
 pub const ENOUGH_BYTES: usize = 508;
@@ -48,28 +46,4 @@ impl Sheet {
     {
         self.put(a).put(b).put(c).put(d)
     }
-}
-
-// Whether a run of bytes fits a lent buffer.
-pub(crate) enum Room {
-    Fits,
-    // It does not, and needs so many bytes.
-    Short(usize),
-}
-
-// Puts the first `len` bytes in front of the lent buffer, if they fit; otherwise the buffer keeps its contents.
-pub(crate) fn copy_out(bytes: [u8; ENOUGH_BYTES], len: usize, out: &mut [u8]) -> Room
-    requires { ⌜ len ≤ enoughBytes ⌝ }
-    ensures answer { λ r. ⌜ r ≡ roomFor len (length (now (out .entry))) ⌝ }
-    ensures buffer { λ _. ⌜ now (out .exit) ≡ placed (take len bytes) (now (out .entry)) ⌝ }
-{
-    if out.len() < len {
-        return Room::Short(len);
-    }
-    let mut i: usize = 0;
-    while i < len {
-        out[i] = bytes[i];
-        i += 1;
-    }
-    Room::Fits
 }

@@ -12,14 +12,13 @@ ghost use Rattle.worksheet.specs.private.SecondPass.{NodeThere, NodeType
 ghost use Rattle.worksheet.specs.Typing.{typing, answerOf, typePaper};
 use crate::one_call::type_call;
 use crate::progress::Progress;
-use crate::sheet::Room;
 use crate::sheet::Sheet;
-use crate::sheet::copy_out;
 use crate::stack::Stack;
 use expressions::LEAF;
 use expressions::Read;
 use expressions::read_expression;
 use functions::FUNCTION_COUNT;
+use lending::lend_bytes;
 use machine::LEAF_LINE;
 use machine::SPARE;
 use scalars::Refusal;
@@ -64,10 +63,9 @@ fn answer(root: Progress, out: &mut [u8]) -> TypeAnswer
             let lines = root.sheet;
             let written = lines.bytes;
             let len = lines.len;
-            let room = copy_out(written, len, out);
-            match room {
-                Room::Short(needed) => TypeAnswer::Refused(Refusal::NoRoom(needed)),
-                Room::Fits => TypeAnswer::Typed {
+            match lend_bytes(&written[..len], out) {
+                Verdict::Refused(why) => TypeAnswer::Refused(why),
+                Verdict::Accepted => TypeAnswer::Typed {
                     code: result,
                     len: len,
                 },

@@ -23,6 +23,8 @@ pub mod number {
     pub const NOTHING: u8 = 11;
     pub const DISAGREE: u8 = 12;
     pub const OUTSIDE: u8 = 13;
+    pub const UNKNOWN_RUN: u8 = 14;
+    pub const MISPLACED: u8 = 15;
     /// That of a run that stopped.
     pub const STOPPED: u8 = 255;
 }
@@ -81,6 +83,15 @@ pub struct TypeAnswer {
     pub number: u8,
     pub type_code: u8,
     pub mark: u8,
+    pub length: usize,
+    pub place: usize,
+}
+
+/// The length of what was read or written, in bytes.
+#[repr(C)]
+#[derive(Clone, Copy, Debug, PartialEq, Eq)]
+pub struct TextAnswer {
+    pub number: u8,
     pub length: usize,
     pub place: usize,
 }
@@ -183,6 +194,12 @@ impl TypeAnswer {
     }
 }
 
+impl TextAnswer {
+    pub fn unpack(self) -> Result<usize, Refusal> {
+        accepted(self.number, self.place).map(|()| self.length)
+    }
+}
+
 impl RunAnswer {
     pub fn unpack(self) -> Run {
         if self.number == number::STOPPED {
@@ -222,10 +239,12 @@ impl fmt::Display for Refusal {
             number::UNKNOWN => "unknown function, type, scalar, index, set bit or conclusion",
             number::MALFORMED => "bytes cut short or left over, or an unknown tag",
             number::TOO_LARGE => "the expression has more than 64 nodes or is deeper than 16",
-            number::ROOM => "the worksheet or the mask needs more room",
+            number::ROOM => "what is to be written needs more room",
             number::NOTHING => "a consensus over nothing",
             number::DISAGREE => "there is no consensus",
-            _ => "the rule has no result",
+            number::OUTSIDE => "the rule has no result",
+            number::UNKNOWN_RUN => "no function or type has this name",
+            _ => "the text is too long, or something in it is misplaced or missing",
         };
         write!(f, "refusal {} at {}: {reason}", self.number, self.place)
     }

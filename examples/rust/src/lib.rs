@@ -8,12 +8,18 @@ mod sets;
 
 pub use answers::{
     number, Chosen, ChosenAnswer, ConsensusAnswer, MaskAnswer, Refusal, Regular, RegularAnswer, Rule, RuleAnswer, Run,
-    RunAnswer, TypeAnswer, NONE,
+    RunAnswer, TextAnswer, TypeAnswer, NONE,
 };
 pub use sets::List;
 
 /// The bytes that suffice for every worksheet.
 pub const ENOUGH_ROOM: usize = 508;
+
+/// The bytes that suffice for what is read from any text.
+pub const ENOUGH_BYTES: usize = 192;
+
+/// The bytes that suffice for the text of any expression.
+pub const ENOUGH_TEXT: usize = 1536;
 
 /// The bytes that suffice for the mask of any function's rules, or any List's.
 pub const ENOUGH_MASK: usize = 8;
@@ -61,6 +67,20 @@ pub fn type_expression(bytes: &[u8], concrete_only: bool, out: &mut [u8]) -> Typ
     unsafe { linked::azwukran_type(bytes.as_ptr(), bytes.len(), concrete_only.into(), out.as_mut_ptr(), out.len()) }
 }
 
+/// Reads an expression's text and writes its bytes to the front of `out`.
+#[inline]
+pub fn read_text(text: &[u8], out: &mut [u8]) -> TextAnswer {
+    // Safety: as for `survivors`.
+    unsafe { linked::azwukran_read_text(text.as_ptr(), text.len(), out.as_mut_ptr(), out.len()) }
+}
+
+/// Writes an expression's text to the front of `out`.
+#[inline]
+pub fn write_text(bytes: &[u8], out: &mut [u8]) -> TextAnswer {
+    // Safety: as for `survivors`.
+    unsafe { linked::azwukran_write_text(bytes.as_ptr(), bytes.len(), out.as_mut_ptr(), out.len()) }
+}
+
 /// Runs a worksheet on the strict machine.
 #[inline]
 pub fn run(sheet: &[u8]) -> RunAnswer {
@@ -75,6 +95,22 @@ pub fn worksheet(bytes: &[u8], concrete_only: bool) -> Result<(u8, Vec<u8>), Ref
     let type_code = answer.unpack()?;
     sheet.truncate(answer.length);
     Ok((type_code, sheet))
+}
+
+/// The bytes of an expression's text.
+pub fn expression(text: &[u8]) -> Result<Vec<u8>, Refusal> {
+    let mut bytes = vec![0; ENOUGH_BYTES];
+    let length = read_text(text, &mut bytes).unpack()?;
+    bytes.truncate(length);
+    Ok(bytes)
+}
+
+/// The text of an expression's bytes.
+pub fn text(bytes: &[u8]) -> Result<Vec<u8>, Refusal> {
+    let mut text = vec![0; ENOUGH_TEXT];
+    let length = write_text(bytes, &mut text).unpack()?;
+    text.truncate(length);
+    Ok(text)
 }
 
 /// The bytes that a mask of so many rules takes.

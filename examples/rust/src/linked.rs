@@ -1,7 +1,9 @@
 //! The C functions, declared as in include/azwukran.h. They keep nothing between calls and write nothing but `out`. Those
 //! of numbers alone are safe to call; the others want each pointer to be good for the length that follows it.
 
-use crate::answers::{ChosenAnswer, ConsensusAnswer, MaskAnswer, RegularAnswer, RuleAnswer, RunAnswer, TypeAnswer};
+use crate::answers::{
+    ChosenAnswer, ConsensusAnswer, MaskAnswer, RegularAnswer, RuleAnswer, RunAnswer, TextAnswer, TypeAnswer,
+};
 
 unsafe extern "C" {
     pub fn azwukran_call(function: u8, operands: *const u8, n: usize, concrete_only: u8) -> ChosenAnswer;
@@ -16,6 +18,8 @@ unsafe extern "C" {
     pub safe fn azwukran_rule(function: u8, index: u8) -> RuleAnswer;
     pub fn azwukran_consensus(base: u8, components: *const u8, n: usize) -> ConsensusAnswer;
     pub fn azwukran_type(bytes: *const u8, n: usize, concrete_only: u8, out: *mut u8, room: usize) -> TypeAnswer;
+    pub fn azwukran_read_text(text: *const u8, n: usize, out: *mut u8, room: usize) -> TextAnswer;
+    pub fn azwukran_write_text(bytes: *const u8, n: usize, out: *mut u8, room: usize) -> TextAnswer;
     pub fn azwukran_run(sheet: *const u8, n: usize) -> RunAnswer;
     pub safe fn azwukran_regular_arg(
         arity: u8,

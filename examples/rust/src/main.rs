@@ -1,7 +1,7 @@
 //! Asks the library questions of each kind by way of the safe functions, and prints the answers. examples/c prints the
 //! same lines from C; examples/run builds both, runs them and compares.
 
-use azwukran::{number, Chosen, List, Refusal, Regular, Rule, Run, ENOUGH_MASK, NONE};
+use azwukran::{number, Chosen, List, Refusal, Regular, Rule, Run, ENOUGH_MASK, ENOUGH_TEXT, NONE};
 
 // Functions and types by number.
 const CLAMP: u8 = 4;
@@ -16,6 +16,11 @@ const U32: u8 = 5;
 const F32: u8 = 8;
 const F16: u8 = 9;
 const VEC2_F32: u8 = 20;
+
+const NO_LEAF: u8 = 157;
+
+/// The depth that a node may have.
+const DEEPEST: usize = 16;
 
 /// The bytes of a worksheet's line.
 const LINE: usize = 4;
@@ -35,6 +40,15 @@ fn main() {
     show_consensus(NONE, &[ABSTRACT_INT, U32, ABSTRACT_FLOAT]);
     show_expression(&[1, CLAMP, 3, 0, ABSTRACT_INT, 0, U32, 0, ABSTRACT_INT]);
     show_expression(&[1, POW, 2, 1, DISTANCE, 2, 0, ABSTRACT_FLOAT, 0, ABSTRACT_FLOAT, 0, F16]);
+    show_text("clamp(abstract-int, u32, abstract-int)");
+    show_text(" mix ( vec2<f32>,vec2<f32>,f32 ) ");
+    show_text("sin()");
+    show_text("Sin(f32)");
+    show_text("sin(f32,)");
+    show_text("sin(f32");
+    show_text(&("sin(".repeat(DEEPEST) + "f32"));
+    show_written("no leaf", &[0, NO_LEAF], ENOUGH_TEXT);
+    show_written("cut short", &[1, SIN], ENOUGH_TEXT);
     // Pow's rules: two arguments of one type, scalar or vector, of a float.
     show_regular(Regular { arity: 2, constructors: 0b1111, scalars: 0b111_0000_0010, conclusion: 0 });
     show_list("Mix", MIX);
@@ -100,6 +114,27 @@ fn show_run(question: &str, sheet: &[u8]) {
         Run::Ended { operands, top } => println!("{question}: ended, operands {operands}, top {}", top.unwrap_or(NONE)),
         Run::Stopped { line } => println!("{question}: stopped at line {line}"),
     }
+}
+
+/// The bytes that a text is read into, and the text written of them, also with too little room for either.
+fn show_text(text: &str) {
+    match azwukran::expression(text.as_bytes()) {
+        Ok(bytes) => {
+            show(&format!("text {text}"), Ok(listed(&bytes)));
+            let short = azwukran::read_text(text.as_bytes(), &mut vec![0; bytes.len() - 1]).unpack();
+            show("  read with a byte too little", short.map(|length| length.to_string()));
+            show_written("  written", &bytes, ENOUGH_TEXT);
+            show_written("  written with no room", &bytes, 0);
+        }
+        Err(refusal) => show(&format!("text {text}"), Err(refusal)),
+    }
+}
+
+/// The text of an expression, written with this room.
+fn show_written(question: &str, bytes: &[u8], room: usize) {
+    let mut lent = vec![FILL; room];
+    let length = azwukran::write_text(bytes, &mut lent).unpack();
+    show(question, length.map(|length| String::from_utf8_lossy(&lent[..length]).into_owned()));
 }
 
 /// A Regular set, what two steps leave of it, and its rules.

@@ -5,14 +5,16 @@ use Prim.Native.Nat.{ℕ, suc, _-_}
 use Rattle.scalars.specs.Paper as paper
 use Rattle.scalars.specs.Paper.{Paper}
 use Rattle.expressions.specs.declared.expression.Step.{Step}
-use Rattle.expressions.specs.declared.expression.Step.the-variants.{Past, Fault}
+use Rattle.expressions.specs.declared.expression.Step.the-variants.{Past, Unknown, IllFormed, TooLarge}
 use Rattle.expressions.specs.Tree.{deepest}
 use Rattle.expressions.specs.Reading.{Reading, done, refused}
 
 -- the offset behind what was read and the number of nodes, or the fault
 abbrev pub stepPaper : Step → Paper
 stepPaper (Past at nodes) = paper.accepted (at ∷ nodes ∷ [])
-stepPaper (Fault why) = paper.refused why []
+stepPaper (Unknown place) = paper.refusal 7 place []
+stepPaper (IllFormed place) = paper.refusal 8 place []
+stepPaper (TooLarge place) = paper.refusal 9 place []
 
 -- the same of a reading
 abbrev pub stepOf : {A : Type 0} → Reading A → Paper

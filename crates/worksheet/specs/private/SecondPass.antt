@@ -13,14 +13,13 @@ use Rattle.calls.specs.Choice.{resolve}
 use Rattle.functions.specs.Functions.{listingOf}
 use Rattle.rules.specs.declared.rule.Rule.{Rule}
 use Rattle.worksheet.specs.declared.sheet.Sheet.{Sheet}
-use Rattle.worksheet.specs.declared.sheet.Room.{Room}
-use Rattle.worksheet.specs.declared.sheet.Room.the-variants.{Fits, Short}
 use Rattle.worksheet.specs.declared.stack.Stack.{Stack}
 use Rattle.worksheet.specs.declared.progress.Progress.{Progress}
 use Rattle.expressions.specs.Tree.{Tree, Trees, count, bytesOf, bytesOfAll, nodes, nodesAll}
+use Rattle.lending.specs.Bytes.{roomFor, placed}
 use Rattle.machine.specs.Line.{Line, encode}
 use Rattle.machine.specs.Machine.{mostOperands}
-use Rattle.worksheet.specs.private.Sheet.{enoughBytes, Wrote, written, roomFor, placed}
+use Rattle.worksheet.specs.private.Sheet.{enoughBytes, Wrote, written}
 use Rattle.worksheet.specs.Places.{behind, starts}
 use Rattle.worksheet.specs.Typer.{Typed, typed, refused, conclude, typeOf, typeAll}
 use Rattle.worksheet.specs.Typing.{noType}
@@ -102,11 +101,11 @@ ArgsTyped b at left switch s h r =
 
 -- the answer that the root's progress makes, and the buffer then
 abbrev pub SheetFits : Progress → Type 0
-SheetFits r = r .verdict ≡ Accepted → r .sheet .len ≤ enoughBytes
+SheetFits r = r .verdict ≡ Accepted → length (written (r .sheet)) ≡ r .sheet .len
 
-abbrev pub roomAnswer : ℕ → ℕ → Room → Paper
-roomAnswer t n Fits = paper.accepted (t ∷ n ∷ [])
-roomAnswer t n (Short needed) = paper.refusal 10 needed noType
+abbrev pub roomAnswer : ℕ → ℕ → Paper → Paper
+roomAnswer t n (paper.accepted vs) = paper.accepted (t ∷ n ∷ [])
+roomAnswer t n (paper.refusal number place vs) = paper.refusal number place noType
 
 abbrev pub rootAnswer : Progress → ℕ → Paper
 rootAnswer r have =

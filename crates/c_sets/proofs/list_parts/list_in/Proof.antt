@@ -5,7 +5,7 @@ use borrow.Author.Tests.{eq-eqb, ne-eqb}
 use Prim.Native.Nat.{_/_}
 use lib.ListN.{length}
 use Rattle.lists.specs.List.{acceptedList}
-use Rattle.lent_masks.specs.Masks.{maskPaper}
+use Rattle.lending.specs.Masks.{maskPaper}
 use Rattle.rules.specs.declared.rule.Rule.{Rule}
 use Rattle.c_sets.proofs.AskedLists.{cut-short, by-mask}
 use borrow.Author.Needs.{needs}

@@ -55,21 +55,9 @@ module _ (t : ℕ) where
   arguments-returns : arguments.Need-returns arguments-claims arguments-at read-arguments.Post
   arguments-returns c = Steps.args-none _ _ _ _ (c .if1 .taken)
 
-  arguments-read-node-requires : arguments.Need-read-node-requires arguments-claims arguments-at read-arguments.Post
-  arguments-read-node-requires c κs = search needs
-
-  arguments-enum-known-one : arguments.Need-enum-known-one arguments-claims arguments-at read-arguments.Post
-  arguments-enum-known-one c = search needs
-
-  arguments-enum-known-one-2 : arguments.Need-enum-known-one-2 arguments-claims arguments-at read-arguments.Post
-  arguments-enum-known-one-2 c = search needs
-
-  arguments-sub-read-arguments : arguments.Need-sub-read-arguments arguments-claims arguments-at read-arguments.Post
-  arguments-sub-read-arguments c = search needs
-
   arguments-read-arguments-requires : arguments.Need-read-arguments-requires arguments-claims arguments-at read-arguments.Post
   arguments-read-arguments-requires c κs =
-      let moved = Steps.node-moves _ _ _ _ _ _ _ (sym (ap stepPaper (c .before .one2 .given .1)) ∙ c .before .before .before .read-node .ensures) in
+      let moved = Steps.node-moves _ _ _ _ _ _ _ (sym (ap stepPaper (c .before .one4 .given .1)) ∙ c .before .before .before .read-node .ensures) in
       (omega (arith, c .before .before .before .before .before .before .pre .0), tt)
 
   arguments-returns-2 : arguments.Need-returns-2 arguments-claims arguments-at read-arguments.Post
@@ -79,9 +67,19 @@ module _ (t : ℕ) where
 
   arguments-returns-3 : arguments.Need-returns-3 arguments-claims arguments-at read-arguments.Post
   arguments-returns-3 c =
+      Steps.args-fault _ _ _ _ (c .before .before .before .before .if1 .left) _ _
+      (sym (ap stepPaper (c .before .one2 .given .1)) ∙ c .before .before .before .read-node .ensures)
+
+  arguments-returns-4 : arguments.Need-returns-4 arguments-claims arguments-at read-arguments.Post
+  arguments-returns-4 c =
+      Steps.args-fault _ _ _ _ (c .before .before .before .before .if1 .left) _ _
+      (sym (ap stepPaper (c .before .one3 .given .1)) ∙ c .before .before .before .read-node .ensures)
+
+  arguments-returns-5 : arguments.Need-returns-5 arguments-claims arguments-at read-arguments.Post
+  arguments-returns-5 c =
       c .read-arguments .ensures
       ∙ Steps.args-others _ _ _ _ (c .before .before .before .before .before .if1 .left) _ _
-      (sym (ap stepPaper (c .before .before .one2 .given .1)) ∙ c .before .before .before .before .read-node .ensures)
+      (sym (ap stepPaper (c .before .before .one4 .given .1)) ∙ c .before .before .before .before .read-node .ensures)
 
   node-returns : node.Need-returns node-claims node-at read-node.Post
   node-returns c = Steps.no-tag _ _ _ _ _ (c .if1 .taken)
@@ -92,54 +90,27 @@ module _ (t : ℕ) where
   node-returns-3 : node.Need-returns-3 node-claims node-at read-node.Post
   node-returns-3 c = Steps.too-deep _ _ _ _ _ (omega arith) (omega arith)
 
-  node-shared-slice-read-tag : node.Need-shared-slice-read-tag node-claims node-at read-node.Post
-  node-shared-slice-read-tag c = search needs
-
-  node-read-leaf-requires : node.Need-read-leaf-requires node-claims node-at read-node.Post
-  node-read-leaf-requires c κs = search needs
-
   node-returns-4 : node.Need-returns-4 node-claims node-at read-node.Post
   node-returns-4 c =
       c .read-leaf .ensures
       ∙ Steps.leaf-node _ _ _ _ _ (omega arith) (omega arith) (omega arith) (omega arith)
 
-  node-add-function : node.Need-add-function node-claims node-at read-node.Post
-  node-add-function c = search needs
-
   node-returns-5 : node.Need-returns-5 node-claims node-at read-node.Post
   node-returns-5 c =
       Steps.call-cut _ _ _ _ _ (omega arith) (omega arith) (omega arith) (omega arith) (omega arith)
-
-  node-shared-slice-read-if7 : node.Need-shared-slice-read-if7 node-claims node-at read-node.Post
-  node-shared-slice-read-if7 c = search needs
 
   node-returns-6 : node.Need-returns-6 node-claims node-at read-node.Post
   node-returns-6 c =
       Steps.call-unknown _ _ _ _ _ (omega arith) (omega arith) (omega arith) (omega arith) (omega arith) (omega arith)
 
-  node-add-count : node.Need-add-count node-claims node-at read-node.Post
-  node-add-count c = search needs
-
   node-returns-7 : node.Need-returns-7 node-claims node-at read-node.Post
   node-returns-7 c =
       Steps.call-uncounted _ _ _ _ _ (omega arith) (omega arith) (omega arith) (omega arith) (omega arith) (omega arith) (omega arith)
-
-  node-shared-slice-read-left : node.Need-shared-slice-read-left node-claims node-at read-node.Post
-  node-shared-slice-read-left c = search needs
 
   node-cast-left : node.Need-cast-left node-claims node-at read-node.Post
   node-cast-left c =
       let start = c .before .before .before .before .before .before .before .before .before .before .before .before in
       omega (arith, c .shared-slice-known4 .given (start .args .at + 2))
-
-  node-add-read-arguments : node.Need-add-read-arguments node-claims node-at read-node.Post
-  node-add-read-arguments c = search needs
-
-  node-add-read-arguments-2 : node.Need-add-read-arguments-2 node-claims node-at read-node.Post
-  node-add-read-arguments-2 c = search needs
-
-  node-add-read-arguments-3 : node.Need-add-read-arguments-3 node-claims node-at read-node.Post
-  node-add-read-arguments-3 c = search needs
 
   node-read-arguments-requires : node.Need-read-arguments-requires node-claims node-at read-node.Post
   node-read-arguments-requires c κs = (search needs, tt)
@@ -163,13 +134,17 @@ pub +read-arguments+read-node-spec : {M : Type 1} → statement M
     (arguments-at t)
     read-arguments.Post
     (arguments-returns t)
-    (arguments-read-node-requires t)
-    (arguments-enum-known-one t)
-    (arguments-enum-known-one-2 t)
-    (arguments-sub-read-arguments t)
+    (λ c κs. search needs)
+    (search needs)
+    (search needs)
+    (search needs)
+    (search needs)
+    (search needs)
     (arguments-read-arguments-requires t)
     (arguments-returns-2 t)
-    (arguments-returns-3 t))
+    (arguments-returns-3 t)
+    (arguments-returns-4 t)
+    (arguments-returns-5 t))
     (λ t. node.spec
     (node-claims t)
     (node-at t)
@@ -177,20 +152,20 @@ pub +read-arguments+read-node-spec : {M : Type 1} → statement M
     (node-returns t)
     (node-returns-2 t)
     (node-returns-3 t)
-    (node-shared-slice-read-tag t)
-    (node-read-leaf-requires t)
+    (search needs)
+    (λ c κs. search needs)
     (node-returns-4 t)
-    (node-add-function t)
+    (search needs)
     (node-returns-5 t)
-    (node-shared-slice-read-if7 t)
+    (search needs)
     (node-returns-6 t)
-    (node-add-count t)
+    (search needs)
     (node-returns-7 t)
-    (node-shared-slice-read-left t)
+    (search needs)
     (node-cast-left t)
-    (node-add-read-arguments t)
-    (node-add-read-arguments-2 t)
-    (node-add-read-arguments-3 t)
+    (search needs)
+    (search needs)
+    (search needs)
     (node-read-arguments-requires t)
     (node-returns-8 t)
     (node-returns-9 t))

@@ -8,29 +8,26 @@ use Rattle.expressions.proofs.Steps.{expression-fault, expression-over,
 use Rattle.expressions.proofs.expression.read_expression.Statement.{statement}
 use Rattle.expressions.proofs.expression.read_expression.Tie as tie
 
-read-node-requires : tie.Need-read-node-requires
-read-node-requires c κs = search needs
-
-enum-known-root : tie.Need-enum-known-root
-enum-known-root c = search needs
-
-enum-known-root-2 : tie.Need-enum-known-root-2
-enum-known-root-2 c = search needs
-
 returns : tie.Need-returns
 returns c =
     expression-over _ _ _ _
-    (sym (ap stepPaper (c .before .before .root2 .given .1)) ∙ c .before .before .before .before .read-node .ensures) (c .if1 .taken)
+    (sym (ap stepPaper (c .before .before .root4 .given .1)) ∙ c .before .before .before .before .read-node .ensures) (c .if1 .taken)
 
 returns-2 : tie.Need-returns-2
 returns-2 c = expression-fault _ _ _ _ (sym (ap stepPaper (c .before .root .given .1)) ∙ c .before .before .before .read-node .ensures)
 
 returns-3 : tie.Need-returns-3
-returns-3 c =
+returns-3 c = expression-fault _ _ _ _ (sym (ap stepPaper (c .before .root2 .given .1)) ∙ c .before .before .before .read-node .ensures)
+
+returns-4 : tie.Need-returns-4
+returns-4 c = expression-fault _ _ _ _ (sym (ap stepPaper (c .before .root3 .given .1)) ∙ c .before .before .before .read-node .ensures)
+
+returns-5 : tie.Need-returns-5
+returns-5 c =
     expression-whole _ _ _ _
-    (sym (ap stepPaper (c .before .before .root2 .given .1)) ∙ c .before .before .before .before .read-node .ensures) (c .if1 .left)
+    (sym (ap stepPaper (c .before .before .root4 .given .1)) ∙ c .before .before .before .before .read-node .ensures) (c .if1 .left)
 
 pub read-expression-spec : {M : Type 1} → statement M
 read-expression-spec =
     tie.close
-    (tie.spec read-node-requires enum-known-root enum-known-root-2 returns returns-2 returns-3)
+    (tie.spec (λ c κs. search needs) (search needs) (search needs) (search needs) (search needs) returns returns-2 returns-3 returns-4 returns-5)

@@ -6,27 +6,15 @@ use Rattle.expressions.proofs.Steps.{leaf-cut, leaf-unknown, leaf-read}
 use Rattle.expressions.proofs.expression.read_leaf.Statement.{statement}
 use Rattle.expressions.proofs.expression.read_leaf.Tie as tie
 
-add-code : tie.Need-add-code
-add-code c = search needs
-
 returns : tie.Need-returns
 returns c = leaf-cut _ _ _ (c .if1 .taken)
 
-shared-slice-read-if2 : tie.Need-shared-slice-read-if2
-shared-slice-read-if2 c = search needs
-
 returns-2 : tie.Need-returns-2
 returns-2 c = leaf-unknown _ _ _ (omega arith) (omega arith)
-
-add-t5 : tie.Need-add-t5
-add-t5 c = search needs
-
-add-t11 : tie.Need-add-t11
-add-t11 c = search needs
 
 returns-3 : tie.Need-returns-3
 returns-3 c = leaf-read _ _ _ (omega arith) (omega arith)
 
 pub read-leaf-spec : {M : Type 1} → statement M
 read-leaf-spec =
-    tie.close (tie.spec add-code returns shared-slice-read-if2 returns-2 add-t5 add-t11 returns-3)
+    tie.close (tie.spec (search needs) returns (search needs) returns-2 (search needs) (search needs) returns-3)

@@ -1,3 +1,0 @@
--- What the proofs of several functions use, and that an answer is determined by its paper.
-mod ByteMasks
-pub mod MaskPapers

@@ -1,2 +1,0 @@
--- What a reader must believe of this crate.
-pub mod Masks

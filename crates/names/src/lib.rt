@@ -1,0 +1,11 @@
+// The names of types and functions as byte strings: the name of a word, and the word that a run of bytes is.
+mod index;
+mod names;
+
+pub use index::Word;
+pub use index::built_in_index;
+pub use index::word_of;
+pub use names::TYPE_COUNT;
+pub use names::WORD_COUNT;
+pub use names::built_in_names;
+pub use names::spelling;

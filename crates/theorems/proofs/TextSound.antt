@@ -1,0 +1,441 @@
+-- What the reader accepts is a layout of its tree, within the limits; what it refuses begins a layout of known names up to the fault's place.
+-- Assumes nothing.
+use mathlib.Core.Path.{_≡_, refl, sym, ap, ap₂, _∙_, subst⁻¹}
+use mathlib.Core.Bool.{Bool, true, false}
+use mathlib.Core.List.{List, [], _∷_, _++_, append-assoc, append-nil}
+use Prim.Native.Nat.{ℕ, zero, suc, _+_, _-_, _≤_, _<_}
+use native.Mathlib.Omega.{arith}
+use borrow.Author.Tests.{ltb-true}
+use lib.ListN.{length, take, drop}
+use lib.Dec.{ltb}
+use Rattle.scalars.specs.Mask.{choose}
+use Rattle.functions.specs.Functions.{functionCount}
+use Rattle.names.specs.Names.{Named, aType, aFunction, unknown, typeName, functionName, named}
+use Rattle.names.proofs.Named.{named-type, named-function}
+use Rattle.expressions.specs.Tree.{Tree, Trees, leaf, call, none, more, nodes, nodesAll, mostNodes}
+use Rattle.expressions.specs.Known.{Known, KnownAll}
+use Rattle.expressions.specs.Limits.{levels, levelsAll}
+use Rattle.expressions.specs.Reading.{Reading, done, refused, andThen}
+use Rattle.text.specs.declared.token.Token.{Token}
+use Rattle.text.specs.declared.token.Token.the-variants.{Open, Close, Comma, Run, End}
+use Rattle.text.specs.Tokens.{openByte, closeByte, commaByte, next, place}
+use Rattle.text.specs.Grammar.{spaces, Layout, Others, leafLaid, emptyLaid, callLaid, closeLaid, commaLaid, laid, laidOthers, treeOf, treesOf}
+use Rattle.text.specs.Reading.{onRun, onOpen, onClose, onMore, argsAt, bracketsAt, wordAt, nodeAt}
+use Rattle.theorems.proofs.TextTokens.{Standing, standing}
+use Rattle.theorems.proofs.TextComplete.{following, node-least}
+
+-- why a text is refused at p: for 9 and 14 a run stands there, which for 14 names nothing
+pub data Why (s : List ℕ) (p : ℕ) : ℕ → Type 0 where
+  limit : (e : ℕ) → next s p ≡ Run p e → Why s p 9
+  strange : (e : ℕ) → next s p ≡ Run p e → named (take (e - p) (drop p s)) ≡ unknown → Why s p 14
+  wrong : Why s p 15
+
+-- it begins with a node
+abbrev pub Node : List ℕ → Type 0
+Node rest = (behind : List ℕ) × (rest ≡ typeName 0 ++ behind)
+
+module _ (s : List ℕ) where
+  -- the text from `at` to a is laid out as this tree
+  pub record NodeSpelt (d at n : ℕ) (x : Tree) (a m : ℕ) : Type 0 where
+    pub layout : Layout
+    pub tree-is : treeOf layout ≡ x
+    pub text : drop at s ≡ laid layout ++ drop a s
+    pub known : Known functionCount x
+    pub low : levels x ≤ d
+    pub nodes-is : m ≡ n + nodes x
+    pub few : m ≤ mostNodes
+    pub later : at ≤ a
+    pub first : place (next s at) ≤ a
+    pub within : a ≤ length s
+
+  -- and from `at` to a as these, with the closing bracket
+  pub record ArgsSpelt (d at n : ℕ) (q : Trees) (a m : ℕ) : Type 0 where
+    pub layout : Layout
+    pub others : Others
+    pub trees-are : more (treeOf layout) (treesOf others) ≡ q
+    pub text : drop at s ≡ laid layout ++ (laidOthers others ++ drop a s)
+    pub known : KnownAll functionCount q
+    pub low : levelsAll q ≤ d
+    pub nodes-are : m ≡ n + nodesAll q
+    pub few : m ≤ mostNodes
+    pub later : at ≤ a
+    pub first : place (next s at) ≤ a
+    pub within : a ≤ length s
+
+  -- the text from `at` to p begins a layout; for 9 and 14 one in which a node begins at p, for 14 one within the limits
+  pub record NodeFault (d at n k p : ℕ) : Type 0 where
+    pub why : Why s p k
+    pub later : at ≤ p
+    pub first : place (next s at) ≤ p
+    pub within : p ≤ length s
+    pub before : List ℕ
+    pub text : drop at s ≡ before ++ drop p s
+    pub rest : List ℕ
+    pub may : (k ≡ 15 → ⊥) → Node rest
+    pub layout : Layout
+    pub completes : before ++ rest ≡ laid layout
+    pub known : Known functionCount (treeOf layout)
+    pub small : k ≡ 14 → (levels (treeOf layout) ≤ d) × (n + nodes (treeOf layout) ≤ mostNodes)
+
+  pub record ArgsFault (d at n k p : ℕ) : Type 0 where
+    pub why : Why s p k
+    pub later : at ≤ p
+    pub first : place (next s at) ≤ p
+    pub within : p ≤ length s
+    pub before : List ℕ
+    pub text : drop at s ≡ before ++ drop p s
+    pub rest : List ℕ
+    pub may : (k ≡ 15 → ⊥) → Node rest
+    pub layout : Layout
+    pub others : Others
+    pub completes : before ++ rest ≡ laid layout ++ laidOthers others
+    pub known : Known functionCount (treeOf layout)
+    pub all-known : KnownAll functionCount (treesOf others)
+    pub small : k ≡ 14 → (levels (treeOf layout) ≤ d) × (levelsAll (treesOf others) ≤ d)
+        × (n + nodes (treeOf layout) + nodesAll (treesOf others) ≤ mostNodes)
+
+  abbrev pub NodeOk : ℕ → ℕ → ℕ → Reading Tree → Type 0
+  NodeOk d at n (done x a m) = NodeSpelt d at n x a m
+  NodeOk d at n (refused k p) = NodeFault d at n k p
+
+  abbrev pub ArgsOk : ℕ → ℕ → ℕ → Reading Trees → Type 0
+  ArgsOk d at n (done q a m) = ArgsSpelt d at n q a m
+  ArgsOk d at n (refused k p) = ArgsFault d at n k p
+
+  module _ (d : ℕ) (node : ℕ → ℕ → Reading Tree) (ok : (at n : ℕ) → at ≤ length s → NodeOk d at n (node at n)) where
+    -- behind an argument
+    module _ (at n : ℕ) (x : Tree) (a m : ℕ) (h : NodeSpelt d at n x a m) where
+      closes : (p : ℕ) → Standing s a (Close p) → ArgsSpelt d at n (more x none) (p + 1) m
+      unfolding laid treeOf nodes levels Known
+      closes p t =
+          let c = t .kind in
+          record {
+            layout = h .layout;
+            others = closeLaid (t .blank);
+            trees-are = ap (λ y. more y none) (h .tree-is);
+            text = h .text ∙ ap (λ l. laid (h .layout) ++ l)
+                (t .text ∙ ap (λ l. spaces (t .blank) ++ l) (c .text)
+                ∙ sym (append-assoc (spaces (t .blank)) (closeByte ∷ []) (drop (p + 1) s)));
+            known = (h .known, tt);
+            low = omega (arith, h .low);
+            nodes-are = omega (arith, h .nodes-is);
+            few = h .few;
+            later = omega (arith, h .later, t .place-is);
+            first = omega (arith, h .first, t .place-is);
+            within = omega (arith, c .here);
+          }
+
+      goes : (p : ℕ) → Standing s a (Comma p) → (r : Reading Trees) → ArgsOk d (p + 1) m r → ArgsOk d at n (andThen r (λ es. done (more x es)))
+      unfolding laid treeOf nodes levels Known
+      goes p t (refused k q) g =
+          let c = t .kind in
+          record {
+            why = g .why;
+            later = omega (arith, g .later, h .later, t .place-is);
+            first = omega (arith, g .later, h .first, t .place-is);
+            within = g .within;
+            before = laid (h .layout) ++ (spaces (t .blank) ++ commaByte ∷ g .before);
+            text = h .text ∙ ap (λ l. laid (h .layout) ++ l)
+                (t .text ∙ ap (λ l. spaces (t .blank) ++ l) (c .text ∙ ap (λ l. commaByte ∷ l) (g .text))) ∙ simp append-assoc;
+            rest = g .rest;
+            may = g .may;
+            layout = h .layout;
+            others = commaLaid (t .blank) (g .layout) (g .others);
+            completes = simp append-assoc (ap (λ l. laid (h .layout) ++ (spaces (t .blank) ++ commaByte ∷ l)) (g .completes));
+            known = subst⁻¹ (Known functionCount) (h .tree-is) (h .known);
+            all-known = (g .known, g .all-known);
+            small = λ z. let y = g .small z in
+                (omega (arith, h .low, ap levels (h .tree-is)), omega (arith, y .0, y .1), omega (arith, y .2, h .nodes-is, ap nodes (h .tree-is)));
+          }
+      goes p t (done es b m′) g =
+          let c = t .kind in
+          record {
+            layout = h .layout;
+            others = commaLaid (t .blank) (g .layout) (g .others);
+            trees-are = ap₂ more (h .tree-is) (g .trees-are);
+            text = h .text ∙ ap (λ l. laid (h .layout) ++ l)
+                (t .text ∙ ap (λ l. spaces (t .blank) ++ l) (c .text ∙ ap (λ l. commaByte ∷ l) (g .text))) ∙ simp append-assoc;
+            known = (h .known, g .known);
+            low = omega (arith, h .low, g .low);
+            nodes-are = omega (arith, h .nodes-is, g .nodes-are);
+            few = g .few;
+            later = omega (arith, g .later, h .later, t .place-is);
+            first = omega (arith, g .later, h .first, t .place-is);
+            within = g .within;
+          }
+
+      stops : (t : Token) → Standing s a t → ArgsFault d at n 15 (place t)
+      unfolding laid treeOf Known
+      stops u t = record {
+        why = wrong;
+        later = omega (arith, h .later, t .place-is);
+        first = omega (arith, h .first, t .place-is);
+        within = t .within (h .within);
+        before = laid (h .layout) ++ spaces (t .blank);
+        text = h .text ∙ ap (λ l. laid (h .layout) ++ l) (t .text) ∙ sym (append-assoc (laid (h .layout)) (spaces (t .blank)) (drop (place u) s));
+        rest = closeByte ∷ [];
+        may = λ z. absurd (z refl);
+        layout = h .layout;
+        others = closeLaid (t .blank);
+        completes = append-assoc (laid (h .layout)) (spaces (t .blank)) (closeByte ∷ []);
+        known = subst⁻¹ (Known functionCount) (h .tree-is) (h .known);
+        all-known = tt;
+        small = λ z. absurd (omega arith);
+      }
+
+    fault-first : (at n k p : ℕ) → NodeFault d at n k p → ArgsFault d at n k p
+    unfolding laid treeOf nodes levels Known
+    fault-first at n k p f = record {
+      why = f .why;
+      later = f .later;
+      first = f .first;
+      within = f .within;
+      before = f .before;
+      text = f .text;
+      rest = f .rest ++ closeByte ∷ [];
+      may = λ z. let y = f .may z in (
+        y .0 ++ closeByte ∷ [],
+        ap (λ l. l ++ closeByte ∷ []) (y .1)
+            ∙ append-assoc (typeName 0) (y .0) (closeByte ∷ []),
+      );
+      layout = f .layout;
+      others = closeLaid 0;
+      completes = sym (append-assoc (f .before) (f .rest) (closeByte ∷ [])) ∙ ap (λ l. l ++ closeByte ∷ []) (f .completes);
+      known = f .known;
+      all-known = tt;
+      small = λ z. let y = f .small z in (y .0, omega arith, omega (arith, y .1));
+    }
+
+    pub args-ok : (left at n : ℕ) → at ≤ length s → n ≤ mostNodes → mostNodes < left + n → ArgsOk d at n (argsAt named s node left at n)
+    unfolding argsAt nodes
+    args-ok zero at n h few fuel = absurd (omega arith)
+    args-ok (suc left) at n h few fuel = go (node at n) (ok at n h) (args-ok left)
+      where
+        Rest : Type 0
+        Rest = (at n : ℕ) → at ≤ length s → n ≤ mostNodes → mostNodes < left + n → ArgsOk d at n (argsAt named s node left at n)
+
+        go : (r : Reading Tree) → NodeOk d at n r → Rest → ArgsOk d at n (andThen r (following s node left))
+        go (refused k p) f rest = fault-first at n k p f
+        go (done x a m) g rest = sign (next s a) (standing s a)
+          where
+            sign : (t : Token) → Standing s a t
+                → ArgsOk d at n (onMore t (λ behind. done (more x none) behind m)
+                (λ behind. andThen (argsAt named s node left behind m) (λ es. done (more x es))))
+            sign (Close p) t = closes at n x a m g p t
+            sign (Comma p) t =
+                goes at n x a m g p t (argsAt named s node left (p + 1) m)
+                (rest (p + 1) m (omega (arith, t .kind .here)) (g .few) (omega (arith, fuel, g .nodes-is, node-least x)))
+            sign (Open p) t = stops at n x a m g (Open p) t
+            sign (Run p e) t = stops at n x a m g (Run p e) t
+            sign (End p) t = stops at n x a m g (End p) t
+
+    -- a node that begins with a run
+    module _ (at n p e : ℕ) (t : Standing s at (Run p e)) (few : n < mostNodes) where
+      abbrev run : List ℕ
+      run = take (e - p) (drop p s)
+
+      run-text : (w : List ℕ) → run ≡ w → drop at s ≡ spaces (t .blank) ++ (w ++ drop e s)
+      run-text w h = let r = t .kind in t .text ∙ ap (λ l. spaces (t .blank) ++ l) (r .text ∙ ap (λ l. l ++ drop e s) h)
+
+      leaf-ok : (c : ℕ) → named run ≡ aType c → NodeSpelt (suc d) at n (leaf (record { type = c })) e (n + 1)
+      unfolding laid treeOf nodes levels Known
+      leaf-ok c h =
+          let r = t .kind in
+          let w = named-type run c h in
+          record {
+            layout = leafLaid (t .blank) c;
+            tree-is = refl;
+            text = run-text (typeName c) (w .1) ∙ sym (append-assoc (spaces (t .blank)) (typeName c) (drop e s));
+            known = omega (arith, w .0);
+            low = omega arith;
+            nodes-is = refl;
+            few = omega arith;
+            later = omega (arith, r .some, t .place-is);
+            first = omega (arith, r .some, ap place (t .is));
+            within = r .within;
+          }
+
+      strange-fault : named run ≡ unknown → NodeFault (suc d) at n 14 p
+      unfolding laid treeOf nodes levels Known
+      strange-fault h = record {
+        why = strange e (t .again) h;
+        later = omega (arith, t .place-is);
+        first = omega (arith, ap place (t .is));
+        within = omega (arith, t .kind .some, t .kind .within);
+        before = spaces (t .blank);
+        text = t .text;
+        rest = typeName 0;
+        may = λ _. ([], sym (append-nil (typeName 0)));
+        layout = leafLaid (t .blank) 0;
+        completes = refl;
+        known = omega arith;
+        small = λ _. (omega arith, omega arith);
+      }
+
+      -- a function's name
+      module _ (f : ℕ) (h : named run ≡ aFunction f) where
+        name-known : f < functionCount
+        name-known = named-function run f h .0
+
+        name-text : drop at s ≡ spaces (t .blank) ++ (functionName f ++ drop e s)
+        name-text = run-text (functionName f) (named-function run f h .1)
+
+        no-bracket : (u : Token) → Standing s e u → NodeFault (suc d) at n 15 (place u)
+        unfolding laid treeOf Known
+        no-bracket u v = record {
+          why = wrong;
+          later = omega (arith, t .place-is, t .kind .some, v .place-is);
+          first = omega (arith, ap place (t .is), t .kind .some, v .place-is);
+          within = v .within (t .kind .within);
+          before = spaces (t .blank) ++ (functionName f ++ spaces (v .blank));
+          text = name-text ∙ ap (λ l. spaces (t .blank) ++ (functionName f ++ l)) (v .text) ∙ simp append-assoc;
+          rest = openByte ∷ closeByte ∷ [];
+          may = λ z. absurd (z refl);
+          layout = emptyLaid (t .blank) f (v .blank) 0;
+          completes = simp append-assoc;
+          known = (name-known, tt);
+          small = λ z. absurd (omega arith);
+        }
+
+        module _ (b : ℕ) (v : Standing s e (Open b)) where
+          open-text : drop at s ≡ spaces (t .blank) ++ (functionName f ++ (spaces (v .blank) ++ openByte ∷ drop (b + 1) s))
+          open-text = let o = v .kind in name-text
+              ∙ ap (λ l. spaces (t .blank) ++ (functionName f ++ l)) (v .text ∙ ap (λ l. spaces (v .blank) ++ l) (o .text))
+
+          empty-ok : (c : ℕ) → Standing s (b + 1) (Close c) → NodeSpelt (suc d) at n (call f none) (c + 1) (n + 1)
+          unfolding laid treeOf nodes levels Known
+          empty-ok c u =
+              let x = u .kind in
+              record {
+                layout = emptyLaid (t .blank) f (v .blank) (u .blank);
+                tree-is = refl;
+                text = open-text ∙ ap (λ l. spaces (t .blank) ++ (functionName f ++ (spaces (v .blank) ++ openByte ∷ l)))
+                    (u .text ∙ ap (λ l. spaces (u .blank) ++ l) (x .text)) ∙ simp append-assoc;
+                known = (name-known, tt);
+                low = omega arith;
+                nodes-is = omega arith;
+                few = omega arith;
+                later = omega (arith, t .place-is, t .kind .some, v .place-is, u .place-is);
+                first = omega (arith, ap place (t .is), t .kind .some, v .place-is, u .place-is);
+                within = omega (arith, x .here);
+              }
+
+          call-ok : (r : Reading Trees) → ArgsOk d (b + 1) (n + 1) r → NodeOk (suc d) at n (andThen r (λ es. done (call f es)))
+          unfolding laid treeOf nodes levels Known
+          call-ok (refused k q) g = record {
+            why = g .why;
+            later = omega (arith, t .place-is, t .kind .some, v .place-is, g .later);
+            first = omega (arith, ap place (t .is), t .kind .some, v .place-is, g .later);
+            within = g .within;
+            before = spaces (t .blank) ++ (functionName f ++ (spaces (v .blank) ++ openByte ∷ g .before));
+            text = open-text ∙ ap (λ l. spaces (t .blank) ++ (functionName f ++ (spaces (v .blank) ++ openByte ∷ l))) (g .text) ∙ simp append-assoc;
+            rest = g .rest;
+            may = g .may;
+            layout = callLaid (t .blank) f (v .blank) (g .layout) (g .others);
+            completes = simp append-assoc (ap (λ l. spaces (t .blank) ++ (functionName f ++ (spaces (v .blank) ++ openByte ∷ l))) (g .completes));
+            known = (name-known, (g .known, g .all-known));
+            small = λ z. let y = g .small z in (omega (arith, y .0, y .1), omega (arith, y .2));
+          }
+          call-ok (done es a m) g = record {
+            layout = callLaid (t .blank) f (v .blank) (g .layout) (g .others);
+            tree-is = ap (call f) (g .trees-are);
+            text = open-text ∙ ap (λ l. spaces (t .blank) ++ (functionName f ++ (spaces (v .blank) ++ openByte ∷ l))) (g .text) ∙ simp append-assoc;
+            known = (name-known, g .known);
+            low = omega (arith, g .low);
+            nodes-is = omega (arith, g .nodes-are);
+            few = g .few;
+            later = omega (arith, t .place-is, t .kind .some, v .place-is, g .later);
+            first = omega (arith, ap place (t .is), t .kind .some, v .place-is, g .later);
+            within = g .within;
+          }
+
+          args-in : ArgsOk d (b + 1) (n + 1) (argsAt named s node (suc mostNodes) (b + 1) (n + 1))
+          args-in = args-ok (suc mostNodes) (b + 1) (n + 1) (omega (arith, v .kind .here)) (omega arith) (omega arith)
+
+          inside-ok : (u : Token) → Standing s (b + 1) u
+              → NodeOk (suc d) at n (andThen (onClose u (λ behind. done none behind (n + 1))
+              (argsAt named s node (suc mostNodes) (b + 1) (n + 1))) (λ es. done (call f es)))
+          inside-ok (Close c) u = empty-ok c u
+          inside-ok (Open c) u = call-ok (argsAt named s node (suc mostNodes) (b + 1) (n + 1)) args-in
+          inside-ok (Comma c) u = call-ok (argsAt named s node (suc mostNodes) (b + 1) (n + 1)) args-in
+          inside-ok (Run c c′) u = call-ok (argsAt named s node (suc mostNodes) (b + 1) (n + 1)) args-in
+          inside-ok (End c) u = call-ok (argsAt named s node (suc mostNodes) (b + 1) (n + 1)) args-in
+
+        brackets-ok : (u : Token) → Standing s e u
+            → NodeOk (suc d) at n (andThen (onOpen u
+            (λ inside. onClose (next s inside) (λ behind. done none behind (n + 1))
+            (argsAt named s node (suc mostNodes) inside (n + 1)))) (λ es. done (call f es)))
+        brackets-ok (Open b) v = inside-ok b v (next s (b + 1)) (standing s (b + 1))
+        brackets-ok (Close b) v = no-bracket (Close b) v
+        brackets-ok (Comma b) v = no-bracket (Comma b) v
+        brackets-ok (Run b b′) v = no-bracket (Run b b′) v
+        brackets-ok (End b) v = no-bracket (End b) v
+
+      word-ok : (w : Named) → named run ≡ w → NodeOk (suc d) at n (wordAt named s node p e n w)
+      unfolding wordAt bracketsAt
+      word-ok (aType c) h = leaf-ok c h
+      word-ok (aFunction f) h = brackets-ok f h (next s e) (standing s e)
+      word-ok unknown h = strange-fault h
+
+  -- a token that begins no node, and a run past the limits
+  module _ (d at n : ℕ) (h : at ≤ length s) where
+    misplaced-fault : (u : Token) → Standing s at u → NodeFault d at n 15 (place u)
+    unfolding laid treeOf Known
+    misplaced-fault u t = record {
+      why = wrong;
+      later = omega (arith, t .place-is);
+      first = omega (arith, ap place (t .is));
+      within = t .within h;
+      before = spaces (t .blank);
+      text = t .text;
+      rest = typeName 0;
+      may = λ z. absurd (z refl);
+      layout = leafLaid (t .blank) 0;
+      completes = refl;
+      known = omega arith;
+      small = λ z. absurd (omega arith);
+    }
+
+    limit-fault : (p e : ℕ) → Standing s at (Run p e) → NodeFault d at n 9 p
+    unfolding laid treeOf Known
+    limit-fault p e t = record {
+      why = limit e (t .again);
+      later = omega (arith, t .place-is);
+      first = omega (arith, ap place (t .is));
+      within = t .within h;
+      before = spaces (t .blank);
+      text = t .text;
+      rest = typeName 0;
+      may = λ _. ([], sym (append-nil (typeName 0)));
+      layout = leafLaid (t .blank) 0;
+      completes = refl;
+      known = omega arith;
+      small = λ z. absurd (omega arith);
+    }
+
+  pub node-ok : (d at n : ℕ) → at ≤ length s → NodeOk d at n (nodeAt named s d at n)
+  unfolding nodeAt
+  node-ok zero at n h = go (next s at) (standing s at)
+    where
+      go : (t : Token) → Standing s at t → NodeOk 0 at n (onRun t (λ p e. refused 9 p))
+      go (Run p e) t = limit-fault 0 at n h p e t
+      go (Open p) t = misplaced-fault 0 at n h (Open p) t
+      go (Close p) t = misplaced-fault 0 at n h (Close p) t
+      go (Comma p) t = misplaced-fault 0 at n h (Comma p) t
+      go (End p) t = misplaced-fault 0 at n h (End p) t
+  node-ok (suc d) at n h = go (node-ok d) (next s at) (standing s at)
+    where
+      run : ((at n : ℕ) → at ≤ length s → NodeOk d at n (nodeAt named s d at n)) → (p e : ℕ) → Standing s at (Run p e) → (b : Bool)
+          → ltb n mostNodes ≡ b
+          → NodeOk (suc d) at n (choose b (wordAt named s (nodeAt named s d) p e n (named (take (e - p) (drop p s)))) (refused 9 p))
+      run below p e t true few = word-ok d (nodeAt named s d) below at n p e t (ltb-true n mostNodes few) (named (take (e - p) (drop p s))) refl
+      run below p e t false few = limit-fault (suc d) at n h p e t
+
+      go : ((at n : ℕ) → at ≤ length s → NodeOk d at n (nodeAt named s d at n)) → (t : Token) → Standing s at t
+          → NodeOk (suc d) at n (onRun t (λ p e. choose (ltb n mostNodes)
+          (wordAt named s (nodeAt named s d) p e n (named (take (e - p) (drop p s)))) (refused 9 p)))
+      go below (Run p e) t = run below p e t (ltb n mostNodes) refl
+      go below (Open p) t = misplaced-fault (suc d) at n h (Open p) t
+      go below (Close p) t = misplaced-fault (suc d) at n h (Close p) t
+      go below (Comma p) t = misplaced-fault (suc d) at n h (Comma p) t
+      go below (End p) t = misplaced-fault (suc d) at n h (End p) t
