@@ -26,7 +26,7 @@ def part(content):
 
 def combine(words):
     a, b, answer = map(int, words)
-    return [a, b, answer]
+    return [a, b, answer, 255 if answer == 255 else 0 if answer == a else 1]
 
 
 def convertible(words):
@@ -45,7 +45,20 @@ def consensus(words):
     assert count == len(components)
     kind, *value = words[arrow + 1:]
     number = {"ok": 0, "err": 12, "panic": 11}[kind]
-    return [base, number, int(value[0]) if value else 0] + components
+    value = int(value[0]) if value else 0
+    return agreed(base, number, value, components, giver(base, components, value) if number == 0 else (255, 255))
+
+
+def agreed(base, number, value, components, by):
+    kind, component = by
+    return [base, number, value, kind] + word(component) + components
+
+
+def giver(base, components, scalar):
+    """Who gave the scalar, which the crate does not say: the base (0), or else a component (1), the first whose scalar it is."""
+    if base == scalar:
+        return 0, 255
+    return 1, next(k for k, t in enumerate(components) if t < 156 and t % 12 == scalar)
 
 
 def rule(text):
@@ -227,6 +240,31 @@ def limit(content, size, answer, sheet):
     return expression(content, 0, size, answer, sheet)
 
 
+# Document 02's request (ii), not the crate's answers: a base or none, components, the scalar, and who gave it.
+NO_BASE, ABSTRACT_INT, VEC2_F32 = 255, 0, 20
+BY_BASE = (0, 255)
+GIVERS = [
+    (NO_BASE, [U32], U32, (1, 0)),
+    (NO_BASE, [ABSTRACT_INT, ABSTRACT_INT], ABSTRACT_INT, (1, 0)),
+    (NO_BASE, [U32, ABSTRACT_INT, U32], U32, (1, 0)),
+    (NO_BASE, [ABSTRACT_INT, U32, ABSTRACT_INT, U32], U32, (1, 1)),
+    (NO_BASE, [ABSTRACT_INT, ABSTRACT_FLOAT, VEC2_F32, F32], F32, (1, 2)),
+    (ABSTRACT_INT, [], ABSTRACT_INT, BY_BASE),
+    (ABSTRACT_INT, [ABSTRACT_INT], ABSTRACT_INT, BY_BASE),
+    (U32, [ABSTRACT_INT, U32], U32, BY_BASE),
+    (ABSTRACT_INT, [ABSTRACT_INT, U32, U32], U32, (1, 1)),
+    (ABSTRACT_INT, [ABSTRACT_FLOAT, F16, ABSTRACT_FLOAT], F16, (1, 1)),
+    (NO_BASE, [ABSTRACT_INT] * 255 + [U32], U32, (1, 255)),
+    (NO_BASE, [ABSTRACT_INT] * 256 + [U32, U32], U32, (1, 256)),
+    (ABSTRACT_INT, [ABSTRACT_INT] * 256 + [U32], U32, (1, 256)),
+    (NO_BASE, [ABSTRACT_INT] * 65000 + [U32], U32, (1, 65000)),
+]
+
+
+def given(base, components, scalar, by):
+    return agreed(base, 0, scalar, components, by)
+
+
 LISTS = [combine, convertible, named_sets, consensus, handsets, calls, refused, allowed, worksheets, room]
 
 
@@ -243,6 +281,7 @@ def main(answers, data):
         store(data / name, [make(line.split()) for line in lines])
     store(data / "boundary", [boundary(*line) for line in BOUNDARY])
     store(data / "limits", [limit(*line) for line in LIMITS])
+    store(data / "givers", [given(*line) for line in GIVERS])
 
 
 main(pathlib.Path(sys.argv[1]), pathlib.Path(sys.argv[2]))

@@ -116,12 +116,12 @@ typedef struct azwukran_regular_answer {
     size_t place;
 } azwukran_regular_answer;
 
-/* The scalar of a consensus. */
+/* The scalar of a consensus, and who gave it. */
 typedef struct azwukran_consensus_answer {
     uint8_t number;
     uint8_t scalar;
-    uint8_t giver;    /* Kept free for: the base or a component gave the scalar. */
-    size_t component; /* Kept free for: which component. */
+    uint8_t giver;    /* AZWUKRAN_BY_BASE or AZWUKRAN_BY_COMPONENT. */
+    size_t component; /* By a component: its index, counted from 0, which may be any, 255 too. By the base: 255. */
     size_t place;
 } azwukran_consensus_answer;
 
@@ -156,6 +156,9 @@ typedef struct azwukran_mask_answer {
     size_t place;
 } azwukran_mask_answer;
 
+/* Who gave the scalar of a consensus. */
+enum { AZWUKRAN_BY_BASE = 0, AZWUKRAN_BY_COMPONENT = 1 };
+
 /* The number of a run that stopped. */
 enum { AZWUKRAN_STOPPED = 255 };
 
@@ -171,8 +174,9 @@ azwukran_mask_answer azwukran_survivors(uint8_t function, const uint8_t *operand
 /* One rule of a function's full listing. Refusal 7 at place 0 for an unknown function, at place 1 for an unknown index. */
 azwukran_rule_answer azwukran_rule(uint8_t function, uint8_t index);
 
-/* The scalar on which components of these types (0 to 180) agree, from a base scalar (0 to 11) or none (255). Refusals,
- * tested in this order: 7, 11, 12. */
+/* The scalar on which components of these types (0 to 180) agree, from a base scalar (0 to 11) or none (255), and who gave
+ * it: the base if it already was that scalar, otherwise the first component whose scalar it is. With no base the first
+ * component serves as one, and is named as component 0 if it gave it. Refusals, tested in this order: 7, 11, 12. */
 azwukran_consensus_answer azwukran_consensus(uint8_t base, const uint8_t *components, size_t n);
 
 /* Types an expression of n bytes and writes its worksheet to the front of `out`, which has `room` bytes; 508 always suffice.

@@ -41,14 +41,14 @@ pub fn compare(seed: u64, quick: bool) -> bool {
     differ == 0
 }
 
-/// Document 01's readings, on both sides.
+/// The documents' readings, on both sides.
 fn compare_readings(rules: &Crate) -> u64 {
     let mut tally = Tally::new("readings");
     for Reading { question, printed, of_crate, of_ours } in readings::readings(rules) {
         tally.check(&printed, &of_crate, || format!("{question}, on the crate's side"));
         tally.check(&printed, &of_ours, || format!("{question}, on ours"));
     }
-    tally.sum_up("document 01's, each on both sides")
+    tally.sum_up("document 01's, and two of who gave a scalar, each on both sides")
 }
 
 /// Every function number and index, known or not.
@@ -64,6 +64,12 @@ fn compare_rules(rules: &Crate) -> u64 {
     let known: usize = (0..=u8::MAX).map(|function| rules.listing(function).len()).sum();
     tally.sum_up(&format!("every function and index from 0 to 255, {} rules", grouped(known as u64)))
 }
+
+/// How many abstract ints a long list of components has.
+const LONG: usize = 70_000;
+
+/// Where in a long list a scalar stands: around the numbers that a byte and two bytes end at, and last.
+const FAR_PLACES: [usize; 7] = [254, 255, 256, 257, 65_535, 65_536, LONG - 1];
 
 fn compare_consensus(asker: &Asker, effort: &Effort, seed: u64) -> u64 {
     let mut tally = Tally::new("consensus");
@@ -92,6 +98,18 @@ fn compare_consensus(asker: &Asker, effort: &Effort, seed: u64) -> u64 {
             check(base, &[OPAQUE, 8, unknown, u8::MAX]);
         }
     }
+    for place in FAR_PLACES {
+        for scalar in 0..SCALAR_COUNT {
+            let mut components = vec![0; LONG];
+            components[place] = scalar;
+            let alone = components.clone();
+            components.push(scalar);
+            for base in [NONE, 0] {
+                check(base, &alone);
+                check(base, &components);
+            }
+        }
+    }
     let mut random = Random::new(seed);
     for _ in 0..effort.consensus {
         let base = if random.once_in(2) { NONE } else { random.below(usize::from(SCALAR_COUNT)) as u8 };
@@ -113,8 +131,10 @@ fn compare_consensus(asker: &Asker, effort: &Effort, seed: u64) -> u64 {
     }
     let remark = format!(
         "bases none and 0 to 11 with all lists of codes 0 to {LAST_CODE} to length {}, unknown bases and components, \
-         and {} random lists; over nothing the crate {}",
+         {} abstract ints with each scalar at {FAR_PLACES:?}, alone and with another behind it, and {} random lists; \
+         over nothing the crate {}",
         effort.exhaustive,
+        grouped(LONG as u64),
         grouped(effort.consensus as u64),
         if panics_over_nothing(asker) { "panics and we refuse" } else { "answers" },
     );

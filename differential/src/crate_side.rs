@@ -1,14 +1,15 @@
 //! The crate's side: naga's own overload sets and consensus, asked through its public interface, with the answers in
 //! document 01's numbers. Nothing of the resolution is repeated here. What is added is the order in which document 01
-//! asks (which argument empties the set, and what is refused before the crate is reached) and the numbering of rules.
+//! asks (which argument empties the set, and what is refused before the crate is reached), the numbering of rules, and
+//! who gave a consensus its scalar.
 
 use naga::ir::{MathFunction, Module, Scalar, Type, TypeInner};
 use naga::proc::overloads_oracle::Hand;
 use naga::proc::{Conclusion, OverloadSet, Rule, TypeResolution};
 use naga::{Handle, Span};
 
-use crate::numbering::{self, FUNCTIONS, LAST_CODE, NONE, OPAQUE};
-use crate::ours::{self, ChosenAnswer, ConsensusAnswer, Masked, Refused, RuleAnswer};
+use crate::numbering::{self, FUNCTIONS, LAST_CODE, NONE, OPAQUE, SCALAR_COUNT};
+use crate::ours::{self, ChosenAnswer, ConsensusAnswer, Giver, Masked, Refused, RuleAnswer};
 
 /// A rule in type codes.
 #[derive(Clone, Debug, PartialEq, Eq)]
@@ -263,9 +264,9 @@ impl Asker<'_> {
         (self.ask)(base, components)
     }
 
-    /// A consensus, with the tests that document 01 puts before the crate's.
+    /// A consensus and who gave its scalar, with the tests that document 01 puts before the crate's.
     pub fn consensus(&self, base: u8, components: &[u8]) -> ConsensusAnswer {
-        if base != NONE && base >= numbering::SCALAR_COUNT {
+        if base != NONE && base >= SCALAR_COUNT {
             return ConsensusAnswer::refused(7, 0);
         }
         if let Some(unknown) = components.iter().position(|&code| code > LAST_CODE) {
@@ -274,12 +275,25 @@ impl Asker<'_> {
         if base == NONE && components.is_empty() {
             return ConsensusAnswer::refused(11, 0);
         }
-        let base = (base != NONE).then(|| numbering::scalar(base));
-        match self.ask(base, &self.expressions(components)) {
-            Ok(scalar) => ours::agreed(numbering::scalar_number(scalar)),
+        let scalar_of_base = (base != NONE).then(|| numbering::scalar(base));
+        match self.ask(scalar_of_base, &self.expressions(components)) {
+            Ok(scalar) => {
+                let scalar = numbering::scalar_number(scalar);
+                ours::agreed(scalar, giver(scalar, base, components))
+            }
             Err(component) => ConsensusAnswer::refused(12, component),
         }
     }
+}
+
+/// Who gave a consensus its scalar, which the crate does not say: the base if it already was that scalar, otherwise the
+/// first component whose scalar it is.
+fn giver(scalar: u8, base: u8, components: &[u8]) -> Giver {
+    if base == scalar {
+        return Giver::Base;
+    }
+    let place = components.iter().position(|&code| code < OPAQUE && code % SCALAR_COUNT == scalar);
+    Giver::Component(place.expect("the scalar of a consensus is the base's or a component's"))
 }
 
 /// A rule of the crate in type codes.

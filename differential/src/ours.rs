@@ -4,7 +4,7 @@
 
 pub use azwukran::{
     call, consensus, mask_bytes, read_text, rule, run, type_expression, write_text, ChosenAnswer, ConsensusAnswer,
-    List, MaskAnswer, Regular, RegularAnswer, RuleAnswer, RunAnswer, TextAnswer, TypeAnswer,
+    Giver, List, MaskAnswer, Regular, RegularAnswer, RuleAnswer, RunAnswer, TextAnswer, TypeAnswer,
 };
 
 use crate::numbering::NONE;
@@ -28,7 +28,7 @@ impl Refused for RuleAnswer {
 
 impl Refused for ConsensusAnswer {
     fn refused(number: u8, place: usize) -> ConsensusAnswer {
-        ConsensusAnswer { number, place, ..agreed(NONE) }
+        ConsensusAnswer { number, scalar: NONE, giver: NONE, component: NONE.into(), place }
     }
 }
 
@@ -57,9 +57,13 @@ pub fn chosen(index: u8, rule: RuleAnswer) -> ChosenAnswer {
     ChosenAnswer { number: 0, index, arguments, count, result, mark: NONE, place: 0 }
 }
 
-/// A consensus on a scalar.
-pub fn agreed(scalar: u8) -> ConsensusAnswer {
-    ConsensusAnswer { number: 0, scalar, giver: NONE, component: NONE.into(), place: 0 }
+/// A consensus on a scalar, and who gave it. The base is no component, so none is named then.
+pub fn agreed(scalar: u8, giver: Giver) -> ConsensusAnswer {
+    let (giver, component) = match giver {
+        Giver::Base => (azwukran::giver::BASE, NONE.into()),
+        Giver::Component(component) => (azwukran::giver::COMPONENT, component),
+    };
+    ConsensusAnswer { number: 0, scalar, giver, component, place: 0 }
 }
 
 /// An expression of this type, with a worksheet of so many bytes.

@@ -1,11 +1,12 @@
 //! Document 01's readings at the bench for calls, consensus and expressions. Where it prints a part of an answer, the rest
-//! was worked out by hand from its rules. Both sides must give them, so the other side of the comparison is held to the
-//! document, too.
+//! was worked out by hand from its rules. Who gave the scalar of a consensus is document 02's request (ii), worked out in
+//! the same way, with two readings of its own. Both sides must give them, so the other side of the comparison is held to
+//! the documents, too.
 
 use crate::crate_side::{Asker, Crate, Outcome, RuleCodes};
 use crate::expressions;
 use crate::numbering::NONE;
-use crate::ours::{self, ConsensusAnswer, Masked, Refused, TypeAnswer, LENT};
+use crate::ours::{self, ConsensusAnswer, Giver, Masked, Refused, TypeAnswer, LENT};
 
 /// A question, the document's answer, and those of the crate's side and ours, all in the same words.
 pub struct Reading {
@@ -52,10 +53,13 @@ fn calls(rules: &Crate) -> Vec<Reading> {
 }
 
 fn consensus(asker: &Asker) -> Vec<Reading> {
-    let table: [(u8, &[u8], ConsensusAnswer); 3] = [
+    let table: [(u8, &[u8], ConsensusAnswer); 5] = [
         (NONE, &[0, 5, 1], ConsensusAnswer::refused(12, 2)),
-        (NONE, &[0, 8, 1], ours::agreed(8)),
+        (NONE, &[0, 8, 1], ours::agreed(8, Giver::Component(1))),
         (1, &[2], ConsensusAnswer::refused(12, 0)),
+        // Request (ii)'s: a base that already was U32, and the first of two components that are.
+        (5, &[0, 5], ours::agreed(5, Giver::Base)),
+        (0, &[0, 5, 5], ours::agreed(5, Giver::Component(1))),
     ];
     let ask = |(base, components, printed): (u8, &[u8], ConsensusAnswer)| Reading {
         question: format!("consensus of {components:?}, base {base}"),

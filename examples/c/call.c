@@ -76,13 +76,20 @@ static void show_rule(const char *question, azwukran_rule_answer rule) {
     }
 }
 
+/* The scalar of a consensus, and who gave it. */
 static void show_consensus(uint8_t base, const uint8_t *components, size_t n) {
     printf("consensus of ");
     print_listed(components, n);
     printf(", base %u: ", base);
     azwukran_consensus_answer consensus = azwukran_consensus(base, components, n);
-    if (!refused(consensus.number, consensus.place)) {
-        printf("scalar %u\n", consensus.scalar);
+    if (refused(consensus.number, consensus.place)) {
+        return;
+    }
+    printf("scalar %u, given by ", consensus.scalar);
+    if (consensus.giver == AZWUKRAN_BY_BASE) {
+        printf("the base\n");
+    } else {
+        printf("component %zu\n", consensus.component);
     }
 }
 
@@ -233,6 +240,10 @@ int main(void) {
     const uint8_t no_floats[] = {ABSTRACT_INT, U32, ABSTRACT_FLOAT};
     show_consensus(NONE, floats, sizeof floats);
     show_consensus(NONE, no_floats, sizeof no_floats);
+    const uint8_t one_u32[] = {ABSTRACT_INT, U32};
+    const uint8_t two_u32[] = {ABSTRACT_INT, U32, U32};
+    show_consensus(U32, one_u32, sizeof one_u32);
+    show_consensus(ABSTRACT_INT, two_u32, sizeof two_u32);
     const uint8_t clamp[] = {1, CLAMP, 3, 0, ABSTRACT_INT, 0, U32, 0, ABSTRACT_INT};
     const uint8_t power[] = {1, POW, 2, 1, DISTANCE, 2, 0, ABSTRACT_FLOAT, 0, ABSTRACT_FLOAT, 0, F16};
     show_expression(clamp, sizeof clamp);

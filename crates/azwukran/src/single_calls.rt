@@ -70,7 +70,7 @@ pub extern "C" fn azwukran_rule(function: u8, index: u8) -> RuleForC
     rule_for_c(rule_at(function, index))
 }
 
-// The scalar on which components agree, from a base or none.
+// The scalar on which components agree, from a base or none, and who gave it.
 #[no_mangle]
 pub extern "C" fn azwukran_consensus(base: u8, components: &[u8]) -> ConsensusForC
     ensures { λ r. ⌜ r ≡ consensusForC (consensusOf (baseOf base) (now (components .entry))) ⌝ }

@@ -23,9 +23,9 @@ ruleForC p =
 unfoldable pub regularForC : Paper → RegularForC
 regularForC p = record { number = number p; arity = value 0 p; constructors = value 1 p; scalars = value 2 p; conclusion = value 3 p; place = place p }
 
--- a consensus: its scalar; the giver's kind and number are kept free
+-- a consensus: its scalar, the giver's kind, the component's number
 unfoldable pub consensusForC : Paper → ConsensusForC
-consensusForC p = record { number = number p; scalar = value 0 p; giver = unused; component = unused; place = place p }
+consensusForC p = record { number = number p; scalar = value 0 p; giver = value 1 p; component = value 2 p; place = place p }
 
 -- the type of an expression, and its worksheet's length; the mark is kept free
 unfoldable pub typeForC : Paper → TypeForC

@@ -8,6 +8,11 @@ pub const FREE: u8 = UNUSED;
 // What stands for no value in a field as wide as a place.
 pub const NO_VALUE: usize = UNUSED as usize;
 
+// The base gave the scalar of a consensus, or a component did.
+pub(crate) const BY_BASE: u8 = 0;
+
+pub(crate) const BY_COMPONENT: u8 = 1;
+
 // The number of a machine's stop, which is no refusal.
 pub const STOPPED: u8 = 255;
 
@@ -53,13 +58,14 @@ pub struct RegularForC {
     pub place: usize,
 }
 
-// The scalar of a consensus.
+// The scalar of a consensus, and who gave it.
 #[repr(C)]
 pub struct ConsensusForC {
     pub number: u8,
     pub scalar: u8,
-    // Kept free for who gave the scalar: its kind, and its number, which is as wide as a place.
+    // BY_BASE or BY_COMPONENT.
     pub giver: u8,
+    // The number of the component that gave the scalar, as wide as a place.
     pub component: usize,
     pub place: usize,
 }

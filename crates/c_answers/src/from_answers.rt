@@ -2,11 +2,14 @@
 
 ghost use mathlib.Core.Path.{_≡_};
 ghost use mathlib.Core.List.{_∷_};
-ghost use Rattle.scalars.specs.Paper.{refusal, scalarPaper, verdictPaper};
+ghost use Rattle.scalars.specs.Paper.{accepted, refusal, verdictPaper};
+ghost use Rattle.types.specs.TypePaper.{giverValues, consensusPaper};
 ghost use Rattle.rules.specs.RulePaper.{rulePaper, ruleValues};
 ghost use Rattle.regular.specs.SetPaper.{regularPaper, regularValues, conclusionNumber};
 ghost use Rattle.lists.specs.ChosenPaper.{chosenPaper};
 ghost use Rattle.c_answers.specs.Answers.{chosenForC, ruleForC, regularForC, consensusForC, maskForC};
+use crate::answers::BY_BASE;
+use crate::answers::BY_COMPONENT;
 use crate::answers::ChosenForC;
 use crate::answers::ConsensusForC;
 use crate::answers::FREE;
@@ -20,9 +23,11 @@ use regular::Regular;
 use regular::RegularAnswer;
 use rules::Rule;
 use rules::RuleAnswer;
-use scalars::ScalarAnswer;
+use scalars::Scalar;
 use scalars::UNUSED;
 use scalars::Verdict;
+use types::ConsensusAnswer;
+use types::Giver;
 
 // The answer where a rule is chosen.
 pub fn chosen_for_c(answer: ChosenAnswer) -> ChosenForC
@@ -122,22 +127,37 @@ fn conclusion_number(conclusion: ConclusionRule) -> u8
 }
 
 // The answer where a consensus is asked for.
-pub fn consensus_for_c(answer: ScalarAnswer) -> ConsensusForC
-    ensures { λ r. ⌜ r ≡ consensusForC (scalarPaper answer) ⌝ }
+pub fn consensus_for_c(answer: ConsensusAnswer) -> ConsensusForC
+    ensures { λ r. ⌜ r ≡ consensusForC (consensusPaper answer) ⌝ }
 {
     match answer {
-        ScalarAnswer::Refused(why) => ConsensusForC {
+        ConsensusAnswer::Refused(why) => ConsensusForC {
             number: why.number(),
             scalar: UNUSED,
-            giver: FREE,
+            giver: UNUSED,
             component: NO_VALUE,
             place: why.place(),
         },
-        ScalarAnswer::Scalar(scalar) => ConsensusForC {
+        ConsensusAnswer::Scalar(scalar, giver) => agreed(scalar, giver),
+    }
+}
+
+fn agreed(scalar: Scalar, giver: Giver) -> ConsensusForC
+    ensures { λ r. ⌜ r ≡ consensusForC (accepted (scalar .0 ∷ giverValues giver)) ⌝ }
+{
+    match giver {
+        Giver::Base => ConsensusForC {
             number: 0,
             scalar: scalar.0,
-            giver: FREE,
+            giver: BY_BASE,
             component: NO_VALUE,
+            place: 0,
+        },
+        Giver::Component(k) => ConsensusForC {
+            number: 0,
+            scalar: scalar.0,
+            giver: BY_COMPONENT,
+            component: k,
             place: 0,
         },
     }

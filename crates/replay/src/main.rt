@@ -1,9 +1,10 @@
 // Asks the libraries every question whose answer by the crate is stored, and counts the answers that differ.
 //
 // Each list of answers is a file of data/ and a file of src/ under the same name, which holds one public function, `agrees`: whether our
-// answer to a record's question is the stored one. The lists of expressions, `worksheets`, `room` and `limits`, share `typings`.
-// `stored_lists` names them all; `boundary` and `limits` hold document 01's answers in place of the crate's, which knows no texts: those of
-// `texts` are by a reader and a writer of the comparison's own. docs/STORED.md says what the records hold.
+// answer to a record's question is the stored one. The lists of expressions, `worksheets`, `room` and `limits`, share `typings`, and
+// `givers` shares `consensus`. `stored_lists` names them all; `boundary` and `limits` hold document 01's answers in place of the crate's, and
+// `givers` document 02's. The crate knows no texts: those of `texts` are by a reader and a writer of the comparison's own. docs/STORED.md says
+// what the records hold.
 
 mod agreement;
 mod allowed;
@@ -44,6 +45,7 @@ fn scalars() {
     replay(StoredList::Convertible, b"convertible");
     replay(StoredList::NamedSets, b"named_sets");
     replay(StoredList::Consensus, b"consensus");
+    replay(StoredList::Consensus, b"givers");
 }
 
 // Sets made by hand.

@@ -7,10 +7,12 @@ pub mod ReadPapers
 pub mod RunPapers
 pub mod TypedPapers
 pub mod OneAnswer
--- consensus
+-- combination and consensus
 pub mod Papers
+pub mod Combination
 pub mod Known
-pub mod Conversions
+pub mod AgreedScalar
+pub mod Givers
 pub mod Consensus
 -- steps of sets, and agreement
 pub mod ListSteps

@@ -2,7 +2,7 @@
 -- papers are one to one. Assumes nothing.
 use mathlib.Core.Path.{refl, sym, ap, _∙_}
 use Rattle.scalars.proofs.Papers.{walk-one, members-one, scalar-one, test-one, verdict-one, count-one}
-use Rattle.types.proofs.TypePapers.{size-one, constructor-one, code-one, combination-one, leaf-one}
+use Rattle.types.proofs.TypePapers.{size-one, constructor-one, code-one, combination-one, consensus-one, leaf-one}
 use Rattle.theorems.proofs.ReadPapers.{read-one}
 use Rattle.rules.proofs.RulePapers.{listing-one, types-one, rule-one}
 use Rattle.regular.proofs.SetPapers.{regular-one, set-one}
@@ -46,7 +46,7 @@ each-function = record {
   «ConstructorSize::to_inner» = λ κs a x y v w p q. (code-one x y (p ∙ sym q), refl);
   «automatically_converts_to» = λ κs a x y v w p q. (test-one x y (p ∙ sym q), refl);
   «automatic_conversion_combine» = λ κs a x y v w p q. (combination-one x y (p ∙ sym q), refl);
-  «automatic_conversion_consensus» = λ κs a x y v w p q. (scalar-one x y (p ∙ sym q), refl);
+  «automatic_conversion_consensus» = λ κs a x y v w p q. (consensus-one x y (p ∙ sym q), refl);
   «code_of» = λ κs a x y v w p q. (code-one x y (p ∙ sym q), refl);
   «leaf_scalar» = λ κs a x y v w p q. (leaf-one x y (p ∙ sym q), refl);
   «is_abstract» = λ κs a x y v w p q. (p ∙ sym q, refl);

@@ -4,7 +4,7 @@ use mathlib.Core.Path.{_≡_, refl}
 use Rattle.scalars.specs.Mask.{bits}
 use Rattle.scalars.specs.Domain.{converts}
 use Rattle.types.specs.Domain.{isAbstract, firstUnknown}
-use Rattle.types.specs.Conversion.{combination, agree, consensusOf}
+use Rattle.types.specs.Conversion.{combination, agree, agreed, firstOf, giverOf, consensusOf}
 use Rattle.types.specs.TypeCode.{predeclaredCode}
 use Rattle.rules.specs.Signature.{reaches}
 use Rattle.calls.specs.Choice.{narrow, resolve}
@@ -21,7 +21,7 @@ use Rattle.worksheet.specs.Typing.{typingOf}
 use Rattle.theorems.specs.Readings.{asked, paper, walked, tested}
 
 pub readings : asked ≡ paper
-unfolding asked paper bits converts isAbstract firstUnknown combination agree consensusOf predeclaredCode reaches narrow resolve ruleOf codesOf concludedOf regularRules floatScalars concreteFloatScalars concreteIntScalars vectorSizes vector matrix scalarOrVecn functionSets functionSetOf listedRules listingOf callOf survivorsOf survivorsOfCall argsAt leafAt callAt taggedAt nodeAt expressionOf typeOf typeAll encode typingOf
+unfolding asked paper bits converts isAbstract firstUnknown combination agree agreed firstOf giverOf consensusOf predeclaredCode reaches narrow resolve ruleOf codesOf concludedOf regularRules floatScalars concreteFloatScalars concreteIntScalars vectorSizes vector matrix scalarOrVecn functionSets functionSetOf listedRules listingOf callOf survivorsOf survivorsOfCall argsAt leafAt callAt taggedAt nodeAt expressionOf typeOf typeAll encode typingOf
 readings = refl
 
 pub walks : walked ≡ tested

@@ -1,7 +1,7 @@
 -- Readings, of the very definitions that the public promises cite: two tables, each proved by one statement.
 --
 -- * 'Readings at the bench': the marked ones. `asked` asks the definitions, and `paper` is what document 01 says; a row is the paper's
---   number, its place, and the values that the reading names.
+--   number, its place, and the values that the reading names; of a consensus also who gave it, by document 02's request (ii).
 -- * The tests of the Rust's `one_bits_iter.rs`: `walked` asks what `OneBitsIter::next` and `OneBit::number` promise, and `tested` is what
 --   the tests expect; a row for the masks that the walk yields, one after the other to its end, and a row for their numbers.
 use mathlib.Core.Bool.{false}
@@ -33,9 +33,9 @@ called f ts = row (0 ∷ 6 ∷ []) (callOf functionCount listingOf false f ts)
 abbrev surviving : ℕ → List ℕ → List ℕ
 surviving f ts = row (0 ∷ []) (survivorsOfCall functionCount listingOf false f ts)
 
--- the scalar
-abbrev agreed : Base → List ℕ → List ℕ
-agreed b ts = row (0 ∷ []) (consensusOf b ts)
+-- the scalar, and who gave it
+abbrev consensus : Base → List ℕ → List ℕ
+consensus b ts = row (0 ∷ 1 ∷ 2 ∷ []) (consensusOf b ts)
 
 -- the type
 abbrev typedAs : List ℕ → List ℕ
@@ -50,7 +50,7 @@ asked =
     ∷ called 32 (8 ∷ 9 ∷ [])
     ∷ surviving 72 (8 ∷ 8 ∷ 8 ∷ []) ∷ called 72 (8 ∷ 8 ∷ 8 ∷ []) ∷ called 72 (20 ∷ 20 ∷ 8 ∷ [])
     ∷ called 74 (61 ∷ [])
-    ∷ agreed base.Nothing (0 ∷ 5 ∷ 1 ∷ []) ∷ agreed base.Nothing (0 ∷ 8 ∷ 1 ∷ []) ∷ agreed (base.Scalar (record { 0 = 1 })) (2 ∷ [])
+    ∷ consensus base.Nothing (0 ∷ 5 ∷ 1 ∷ []) ∷ consensus base.Nothing (0 ∷ 8 ∷ 1 ∷ []) ∷ consensus (base.Scalar (record { 0 = 1 })) (2 ∷ [])
     ∷ typedAs [] ∷ typedAs (0 ∷ 156 ∷ [])
     ∷ []
 
@@ -68,8 +68,8 @@ paper =
     ∷ (0 ∷ 0 ∷ 0b11_0000_0000 ∷ []) ∷ (0 ∷ 0 ∷ 8 ∷ 8 ∷ []) ∷ (0 ∷ 0 ∷ 11 ∷ 20 ∷ [])
     -- Transpose(61): type 85, index 4
     ∷ (0 ∷ 0 ∷ 4 ∷ 85 ∷ [])
-    -- consensus of 0, 5, 1 with no base: refusal 12 at 2. Of 0, 8, 1: 8. Base 1 with component 2: refusal 12 at 0
-    ∷ (12 ∷ 2 ∷ 255 ∷ []) ∷ (0 ∷ 0 ∷ 8 ∷ []) ∷ (12 ∷ 0 ∷ 255 ∷ [])
+    -- consensus of 0, 5, 1 with no base: refusal 12 at 2. Of 0, 8, 1: 8, which component 1 gave. Base 1 with component 2: refusal 12 at 0
+    ∷ (12 ∷ 2 ∷ 255 ∷ 255 ∷ 255 ∷ []) ∷ (0 ∷ 0 ∷ 8 ∷ 1 ∷ 1 ∷ []) ∷ (12 ∷ 0 ∷ 255 ∷ 255 ∷ 255 ∷ [])
     -- the empty expression: refusal 8 at 0. Leaf 156 alone: accepted, type 156
     ∷ (8 ∷ 0 ∷ 255 ∷ []) ∷ (0 ∷ 0 ∷ 156 ∷ [])
     ∷ []

@@ -3,5 +3,7 @@ pub mod Constructors
 pub mod TypeCodes
 pub mod Sizes
 pub mod Codes
+pub mod Conversions
 pub mod Combinations
+pub mod Agreeing
 pub mod TypePapers

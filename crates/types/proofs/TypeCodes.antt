@@ -58,7 +58,7 @@ module _ (t : ℕ) where
 
 -- an answer that is a code passed each test before it
 module _ (k s t : ℕ) where
-  pub if-known : (answer : Paper) → ifBoth (ltb k constructorCount) (ltb s scalarCount) answer ≡ accepted (t ∷ []) → (k < constructorCount) × (s < scalarCount) × (answer ≡ accepted (t ∷ []))
+  pub if-known : (answer : Paper) → ifBoth (ltb k constructorCount) (ltb s scalarCount) (unused ∷ []) answer ≡ accepted (t ∷ []) → (k < constructorCount) × (s < scalarCount) × (answer ≡ accepted (t ∷ []))
   if-known answer e = go (ltb k constructorCount) (ltb s scalarCount) refl refl e
     where
       go : (x y : Bool) → ltb k constructorCount ≡ x → ltb s scalarCount ≡ y → choose x (choose y answer (refusal 7 1 (unused ∷ []))) (refusal 7 0 (unused ∷ [])) ≡ accepted (t ∷ [])

@@ -1,10 +1,10 @@
--- The paper's numbers determine each answer about constructors, type codes and combinations: two answers of one kind with the same
--- number, place and values are equal. Shown by a function that reads the answer back. Assumes nothing.
+-- The paper's numbers determine each answer about constructors, type codes, combinations and consensus: two answers of one kind with the
+-- same number, place and values are equal. Shown by a function that reads the answer back. Assumes nothing.
 use mathlib.Core.Path.{_≡_, refl, ap}
 use mathlib.Core.List.{List, [], _∷_}
 use Prim.Native.Nat.{ℕ}
 use lib.Dec.{eqb}
-use lib.ListN.{getD}
+use lib.ListN.{getD, drop}
 use Rattle.scalars.specs.Paper.{unused}
 use Rattle.scalars.specs.Mask.{choose}
 use Rattle.types.specs.declared.constructor_set.SizeAnswer.{SizeAnswer}
@@ -15,9 +15,15 @@ use Rattle.types.specs.declared.type_code.CodeAnswer.{CodeAnswer}
 use Rattle.types.specs.declared.type_code.CodeAnswer.the-variants as code
 use Rattle.types.specs.declared.type_code.LeafScalar.{LeafScalar}
 use Rattle.types.specs.declared.type_code.LeafScalar.the-variants as leaf
+use Rattle.types.specs.declared.conversion.Side.{Side}
+use Rattle.types.specs.declared.conversion.Side.the-variants as side
 use Rattle.types.specs.declared.conversion.Combination.{Combination}
-use Rattle.types.specs.declared.conversion.Combination.the-variants as combined
-use Rattle.types.specs.TypePaper.{constructorPaper, codePaper, leafPaper, combinationPaper, sizePaper}
+use Rattle.types.specs.declared.conversion.Combination.the-variants as combination
+use Rattle.types.specs.declared.conversion.Giver.{Giver}
+use Rattle.types.specs.declared.conversion.Giver.the-variants as giver
+use Rattle.types.specs.declared.conversion.ConsensusAnswer.{ConsensusAnswer}
+use Rattle.types.specs.declared.conversion.ConsensusAnswer.the-variants as consensus
+use Rattle.types.specs.TypePaper.{constructorPaper, codePaper, leafPaper, left, sideNumber, combinationPaper, giverValues, noConsensus, consensusPaper, sizePaper}
 use Rattle.types.proofs.Sizes.{sizeNamed, size-named}
 use Rattle.scalars.proofs.Papers.{read, reads-refused, one-to-one}
 
@@ -69,15 +75,43 @@ leaf-back (leaf.Refused why) = reads-refused leafIn leaf.Refused why (unused ∷
 pub leaf-one : (a b : LeafScalar) → leafPaper a ≡ leafPaper b → a ≡ b
 leaf-one = one-to-one leafPaper (read leafIn leaf.Refused) leaf-back
 
-abbrev combinationIn : List ℕ → Combination
-combinationIn [] = combined.Nothing
-combinationIn (s ∷ vs) = combined.Scalar (record { 0 = s })
+-- ---- a scalar and who gave it
 
-combination-back : (a : Combination) → read combinationIn combined.Refused (combinationPaper a) ≡ a
+abbrev sideOf : ℕ → Side
+sideOf n = choose (eqb n left) side.Left side.Right
+
+side-back : (x : Side) → sideOf (sideNumber x) ≡ x
+side-back side.Left = refl
+side-back side.Right = refl
+
+abbrev combinationIn : List ℕ → Combination
+combinationIn [] = combination.Nothing
+combinationIn (s ∷ vs) = combination.Scalar (record { 0 = s }) (sideOf (getD vs 0 0))
+
+combination-back : (a : Combination) → read combinationIn combination.Refused (combinationPaper a) ≡ a
 unfolding read
-combination-back (combined.Scalar s) = refl
-combination-back combined.Nothing = refl
-combination-back (combined.Refused why) = reads-refused combinationIn combined.Refused why (unused ∷ [])
+combination-back (combination.Scalar s by) = ap (combination.Scalar s) (side-back by)
+combination-back combination.Nothing = refl
+combination-back (combination.Refused why) = reads-refused combinationIn combination.Refused why (unused ∷ unused ∷ [])
 
 pub combination-one : (a b : Combination) → combinationPaper a ≡ combinationPaper b → a ≡ b
-combination-one = one-to-one combinationPaper (read combinationIn combined.Refused) combination-back
+combination-one = one-to-one combinationPaper (read combinationIn combination.Refused) combination-back
+
+-- its kind by number, then the component's number
+abbrev giverFrom : List ℕ → Giver
+giverFrom vs = choose (eqb (getD vs 0 0) 0) giver.Base (giver.Component (getD vs 1 0))
+
+giver-back : (x : Giver) → giverFrom (giverValues x) ≡ x
+giver-back giver.Base = refl
+giver-back (giver.Component k) = refl
+
+abbrev consensusIn : List ℕ → ConsensusAnswer
+consensusIn vs = consensus.Scalar (record { 0 = getD vs 0 0 }) (giverFrom (drop 1 vs))
+
+consensus-back : (a : ConsensusAnswer) → read consensusIn consensus.Refused (consensusPaper a) ≡ a
+unfolding read
+consensus-back (consensus.Scalar s by) = ap (consensus.Scalar s) (giver-back by)
+consensus-back (consensus.Refused why) = reads-refused consensusIn consensus.Refused why noConsensus
+
+pub consensus-one : (a b : ConsensusAnswer) → consensusPaper a ≡ consensusPaper b → a ≡ b
+consensus-one = one-to-one consensusPaper (read consensusIn consensus.Refused) consensus-back

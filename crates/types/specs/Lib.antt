@@ -4,3 +4,4 @@ pub mod TypeCode
 pub mod Constructor
 pub mod Conversion
 pub mod TypePaper
+pub mod private

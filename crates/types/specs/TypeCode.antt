@@ -1,6 +1,6 @@
 -- 'The domain': a type code put together of its parts, with the refusals of what is no type code.
 use mathlib.Core.Bool.{Bool}
-use mathlib.Core.List.{[], _∷_}
+use mathlib.Core.List.{List, [], _∷_}
 use Prim.Native.Nat.{ℕ, _+_, _-_, _*_}
 use lib.Dec.{leb, ltb}
 use Rattle.scalars.specs.Mask.{choose, both}
@@ -25,18 +25,18 @@ firstFrexp = 169
 abbrev pub floatCount : ℕ
 floatCount = 3
 
--- two numbers, each of them known: otherwise refusal 7 at 0 for the first, at 1 for the second
-abbrev pub ifBoth : Bool → Bool → Paper → Paper
-ifBoth first second answer = choose first (choose second answer (refusal 7 1 (unused ∷ []))) (refusal 7 0 (unused ∷ []))
+-- two numbers, each of them known: otherwise refusal 7 at 0 for the first, at 1 for the second, with these values
+abbrev pub ifBoth : Bool → Bool → List ℕ → Paper → Paper
+ifBoth first second vs answer = choose first (choose second answer (refusal 7 1 vs)) (refusal 7 0 vs)
 
 -- of a constructor and a scalar
 unfoldable pub valueCode : ℕ → ℕ → Paper
-valueCode k s = ifBoth (ltb k constructorCount) (ltb s scalarCount) (accepted (typeCode k s ∷ []))
+valueCode k s = ifBoth (ltb k constructorCount) (ltb s scalarCount) (unused ∷ []) (accepted (typeCode k s ∷ []))
 
 -- for a matrix, or for a scalar but F32, F16, F64, refusal 13
 unfoldable pub predeclaredCode : ℕ → ℕ → ℕ → Paper
 predeclaredCode first k s =
-    ifBoth (ltb k constructorCount) (ltb s scalarCount)
+    ifBoth (ltb k constructorCount) (ltb s scalarCount) (unused ∷ [])
     (choose (both (ltb k firstMatrix) (both (leb f32 s) (leb s f64))) (accepted ((first + k * floatCount + (s - f32)) ∷ [])) (refusal 13 0 (unused ∷ [])))
 
 abbrev pub codeOf : TypeParts → Paper

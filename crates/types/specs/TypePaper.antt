@@ -1,4 +1,4 @@
--- The paper's number, place and values for the answers about constructors, type codes and combinations.
+-- The paper's number, place and values for the answers about constructors, type codes, combinations and consensus.
 use mathlib.Core.List.{List, [], _∷_}
 use Prim.Native.Nat.{ℕ}
 use Rattle.scalars.specs.Paper.{Paper, accepted, refused, unused}
@@ -12,8 +12,14 @@ use Rattle.types.specs.declared.type_code.CodeAnswer.{CodeAnswer}
 use Rattle.types.specs.declared.type_code.CodeAnswer.the-variants as code
 use Rattle.types.specs.declared.type_code.LeafScalar.{LeafScalar}
 use Rattle.types.specs.declared.type_code.LeafScalar.the-variants as leaf
+use Rattle.types.specs.declared.conversion.Side.{Side}
+use Rattle.types.specs.declared.conversion.Side.the-variants as side
 use Rattle.types.specs.declared.conversion.Combination.{Combination}
-use Rattle.types.specs.declared.conversion.Combination.the-variants as combined
+use Rattle.types.specs.declared.conversion.Combination.the-variants as combination
+use Rattle.types.specs.declared.conversion.Giver.{Giver}
+use Rattle.types.specs.declared.conversion.Giver.the-variants as giver
+use Rattle.types.specs.declared.conversion.ConsensusAnswer.{ConsensusAnswer}
+use Rattle.types.specs.declared.conversion.ConsensusAnswer.the-variants as consensus
 
 -- ---- one value: a constructor, a type code
 
@@ -32,10 +38,43 @@ leafPaper (leaf.Scalar s) = accepted (s .0 ∷ [])
 leafPaper leaf.Nothing = accepted []
 leafPaper (leaf.Refused why) = refused why (unused ∷ [])
 
+-- ---- a scalar, and who gave it
+
+-- of two scalars: the left is 0, the right 1
+abbrev pub left : ℕ
+left = 0
+
+abbrev pub right : ℕ
+right = 1
+
+abbrev pub sideNumber : Side → ℕ
+sideNumber side.Left = left
+sideNumber side.Right = right
+
+-- nothing has no value
 abbrev pub combinationPaper : Combination → Paper
-combinationPaper (combined.Scalar s) = accepted (s .0 ∷ [])
-combinationPaper combined.Nothing = accepted []
-combinationPaper (combined.Refused why) = refused why (unused ∷ [])
+combinationPaper (combination.Scalar s by) = accepted (s .0 ∷ sideNumber by ∷ [])
+combinationPaper combination.Nothing = accepted []
+combinationPaper (combination.Refused why) = refused why (unused ∷ unused ∷ [])
+
+-- of a consensus: the base is 0, and has no number; a component is 1, with its number
+abbrev pub byBase : List ℕ
+byBase = 0 ∷ unused ∷ []
+
+abbrev pub byComponent : ℕ → List ℕ
+byComponent k = 1 ∷ k ∷ []
+
+abbrev pub giverValues : Giver → List ℕ
+giverValues giver.Base = byBase
+giverValues (giver.Component k) = byComponent k
+
+-- what stands for scalar and giver in a refusal
+abbrev pub noConsensus : List ℕ
+noConsensus = unused ∷ unused ∷ unused ∷ []
+
+abbrev pub consensusPaper : ConsensusAnswer → Paper
+consensusPaper (consensus.Scalar s by) = accepted (s .0 ∷ giverValues by)
+consensusPaper (consensus.Refused why) = refused why noConsensus
 
 -- ---- a kind by its number, then its parts
 

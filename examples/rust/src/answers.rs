@@ -29,6 +29,12 @@ pub mod number {
     pub const STOPPED: u8 = 255;
 }
 
+/// The numbers of who gave the scalar of a consensus.
+pub mod giver {
+    pub const BASE: u8 = 0;
+    pub const COMPONENT: u8 = 1;
+}
+
 /// A chosen rule, with its index in the function's full listing or among the rules handed in. The mark is kept free.
 #[repr(C)]
 #[derive(Clone, Copy, Debug, PartialEq, Eq)]
@@ -65,7 +71,7 @@ pub struct RegularAnswer {
     pub place: usize,
 }
 
-/// The scalar of a consensus. Who gave it is kept free.
+/// The scalar of a consensus, and who gave it: the base, with 255 for the component, or a component, with its index.
 #[repr(C)]
 #[derive(Clone, Copy, Debug, PartialEq, Eq)]
 pub struct ConsensusAnswer {
@@ -115,7 +121,7 @@ pub struct MaskAnswer {
     pub place: usize,
 }
 
-/// A refusal: its number, 1 to 13, and its place.
+/// A refusal: its number, 1 to 15, and its place.
 #[derive(Clone, Copy, Debug, PartialEq, Eq)]
 pub struct Refusal {
     pub number: u8,
@@ -143,6 +149,22 @@ pub struct Regular {
     pub constructors: u16,
     pub scalars: u16,
     pub conclusion: u8,
+}
+
+/// The scalar of a consensus, and who gave it.
+#[derive(Clone, Copy, Debug, PartialEq, Eq)]
+pub struct Consensus {
+    pub scalar: u8,
+    pub giver: Giver,
+}
+
+/// Who gave the scalar of a consensus.
+#[derive(Clone, Copy, Debug, PartialEq, Eq)]
+pub enum Giver {
+    /// The base, which already was that scalar.
+    Base,
+    /// The first component whose scalar it is, counted from 0.
+    Component(usize),
 }
 
 /// How a worksheet ran on the strict machine.
@@ -183,8 +205,10 @@ impl RegularAnswer {
 }
 
 impl ConsensusAnswer {
-    pub fn unpack(self) -> Result<u8, Refusal> {
-        accepted(self.number, self.place).map(|()| self.scalar)
+    pub fn unpack(self) -> Result<Consensus, Refusal> {
+        accepted(self.number, self.place)?;
+        let giver = if self.giver == giver::BASE { Giver::Base } else { Giver::Component(self.component) };
+        Ok(Consensus { scalar: self.scalar, giver })
     }
 }
 

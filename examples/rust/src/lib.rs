@@ -7,8 +7,8 @@ mod linked;
 mod sets;
 
 pub use answers::{
-    number, Chosen, ChosenAnswer, ConsensusAnswer, MaskAnswer, Refusal, Regular, RegularAnswer, Rule, RuleAnswer, Run,
-    RunAnswer, TextAnswer, TypeAnswer, NONE,
+    giver, number, Chosen, ChosenAnswer, Consensus, ConsensusAnswer, Giver, MaskAnswer, Refusal, Regular,
+    RegularAnswer, Rule, RuleAnswer, Run, RunAnswer, TextAnswer, TypeAnswer, NONE,
 };
 pub use sets::List;
 
@@ -53,7 +53,7 @@ pub fn rule(function: u8, index: u8) -> RuleAnswer {
     linked::azwukran_rule(function, index)
 }
 
-/// The scalar on which components of these types agree, from a base scalar or `NONE`.
+/// The scalar on which components of these types agree, from a base scalar or `NONE`, and who gave it.
 #[inline]
 pub fn consensus(base: u8, components: &[u8]) -> ConsensusAnswer {
     // Safety: as for `call`.

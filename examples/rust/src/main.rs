@@ -1,7 +1,7 @@
 //! Asks the library questions of each kind by way of the safe functions, and prints the answers. examples/c prints the
 //! same lines from C; examples/run builds both, runs them and compares.
 
-use azwukran::{number, Chosen, List, Refusal, Regular, Rule, Run, ENOUGH_MASK, ENOUGH_TEXT, NONE};
+use azwukran::{number, Chosen, Consensus, Giver, List, Refusal, Regular, Rule, Run, ENOUGH_MASK, ENOUGH_TEXT, NONE};
 
 // Functions and types by number.
 const CLAMP: u8 = 4;
@@ -38,6 +38,8 @@ fn main() {
     show_rule("Transpose", TRANSPOSE, 36);
     show_consensus(NONE, &[ABSTRACT_INT, F32, ABSTRACT_FLOAT]);
     show_consensus(NONE, &[ABSTRACT_INT, U32, ABSTRACT_FLOAT]);
+    show_consensus(U32, &[ABSTRACT_INT, U32]);
+    show_consensus(ABSTRACT_INT, &[ABSTRACT_INT, U32, U32]);
     show_expression(&[1, CLAMP, 3, 0, ABSTRACT_INT, 0, U32, 0, ABSTRACT_INT]);
     show_expression(&[1, POW, 2, 1, DISTANCE, 2, 0, ABSTRACT_FLOAT, 0, ABSTRACT_FLOAT, 0, F16]);
     show_text("clamp(abstract-int, u32, abstract-int)");
@@ -88,9 +90,14 @@ fn show_rule(name: &str, function: u8, index: u8) {
     show(&format!("rule {index} of {name}"), answer.map(|rule| rule_text(&rule)));
 }
 
+/// The scalar of a consensus, and who gave it.
 fn show_consensus(base: u8, components: &[u8]) {
     let answer = azwukran::consensus(base, components).unpack();
-    show(&format!("consensus of {}, base {base}", listed(components)), answer.map(|scalar| format!("scalar {scalar}")));
+    let text = |Consensus { scalar, giver }| match giver {
+        Giver::Base => format!("scalar {scalar}, given by the base"),
+        Giver::Component(component) => format!("scalar {scalar}, given by component {component}"),
+    };
+    show(&format!("consensus of {}, base {base}", listed(components)), answer.map(text));
 }
 
 /// An expression's type, its worksheet, and how that runs, whole and without its first line.

@@ -4,25 +4,25 @@ use mathlib.Core.Path.{sym, ap, _∙_}
 use native.Mathlib.Omega.{arith}
 use borrow.Author.Tests.{lt-ltb, le-ltb}
 use Rattle.types.specs.TypePaper.{leafPaper}
-use Rattle.types.specs.Conversion.{consensusOf}
+use Rattle.types.specs.Conversion.{agreed, consensusOf}
 use Rattle.types.proofs.TypeCodes.{leaf-some, leaf-none}
-use Rattle.types.proofs.Combinations.{first-none, first-without, first-agrees}
+use Rattle.types.proofs.Agreeing.{first-none, first-without, first-agrees}
 use borrow.Author.Needs.{needs}
 use Rattle.types.proofs.conversion.consensus_without.Statement.{statement}
 use Rattle.types.proofs.conversion.consensus_without.Tie as tie
 
 returns : tie.Need-returns
-unfolding consensusOf
+unfolding consensusOf agreed
 returns c = simp (← c .before .first-unknown .ensures, lt-ltb _ _ (c .if1 .taken))
 
 returns-2 : tie.Need-returns-2
-unfolding consensusOf
+unfolding consensusOf agreed
 returns-2 c =
     let known = c .before in
     simp (← known .before .first-unknown .ensures, le-ltb _ _ (known .if1 .left)) (first-none (known .before .before .before .args .components .now) (c .if2 .taken))
 
 returns-3 : tie.Need-returns-3
-unfolding consensusOf
+unfolding consensusOf agreed
 returns-3 c =
     let some = c .before .before .before in
     let known = some .before in
@@ -35,7 +35,7 @@ agree-from-requires c κs =
     record { 0 = omega (arith, f .1); 1 = omega arith }
 
 returns-4 : tie.Need-returns-4
-unfolding consensusOf
+unfolding consensusOf agreed
 returns-4 c =
     let told = c .before .before in
     let some = told .before .before .before .before in
