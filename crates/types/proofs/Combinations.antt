@@ -15,7 +15,7 @@ use Rattle.scalars.specs.Scalar.{member, convertibleFrom}
 use Rattle.scalars.specs.Paper.{Paper, accepted}
 use Rattle.types.specs.TypePaper.{left, right, combinationPaper}
 use Rattle.types.specs.Conversion.{convertsTo, combination, side, combined, none}
-use Rattle.types.specs.private.Agreeing.{combinations}
+use Rattle.types.specs.private.Agreeing.{pairCount, combinations}
 use Rattle.types.specs.declared.conversion.Combination.{Combination}
 use Rattle.types.specs.declared.conversion.Combination.the-variants as answer
 use Rattle.types.proofs.conversion.Combination as declared
@@ -30,7 +30,7 @@ unfolding convertsTo
 converts-told a b m h k e f =
     simp (lt-ltb _ _ h, lt-ltb _ _ k) (ap (λ (y : Bool). accepted (digit y ∷ [])) (sym (reached a b h k) ∙ ap (member b) (sym e) ∙ f))
 
--- ---- the table of 144 entries, one for each ordered pair
+-- ---- the table, an entry for each ordered pair
 
 -- what is read off an entry: nothing, or the one of the two scalars that it is, the left where both are, with its side
 unfoldable pub readOff : ℕ → ℕ → ℕ → Paper
@@ -63,7 +63,7 @@ table-rule a b h k =
     let q : i / scalarCount ≡ a = omega arith in
     let r : i % scalarCount ≡ b = omega arith in
     entry-reads a b (getD combinations i 0)
-    (entry 0 (λ k. combination (k / scalarCount) (k % scalarCount)) 144 i (omega arith) ∙ ap₂ combination q r)
+    (entry 0 (λ k. combination (k / scalarCount) (k % scalarCount)) pairCount i (omega arith) ∙ ap₂ combination q r)
     (rw (q, r) at (at (λ k c. fits? (k / scalarCount) (k % scalarCount) c) combinations tt i (omega arith)))
 
 -- the three ways to read an entry of the table

@@ -257,8 +257,8 @@ fn combine_by(table: &[u8], a: Scalar, b: Scalar) -> Combination
     Combination::Scalar(b, Side::Right)
 }
 
-// The one of two scalars that the other converts to, and the side that gave it, or nothing. Refused 7 for an unknown scalar, at 0, then at
-// 1.
+// The one of two scalars that the other converts to, and the side that gave it, or nothing. Refused 7 at 0, then at 1, for an unknown
+// scalar.
 pub fn automatic_conversion_combine(a: Scalar, b: Scalar) -> Combination
     ensures { λ r. ⌜ combinationPaper r ≡ combineOf (a .0) (b .0) ⌝ }
 {
@@ -337,7 +337,7 @@ fn agree_from(components: &[u8], start: usize, base: Scalar, by: usize) -> Conse
     ConsensusAnswer::Scalar(best, giver_in(components.len(), giver))
 }
 
-// Which component gave the best so far, once component i is combined with it, and has given it where the right side did.
+// Which component gave the best, once component i is combined with it: i itself, where the right side gives the combination.
 fn giver_after(giver: usize, side: Side, i: usize) -> usize
     ensures { λ r. ⌜ r ≡ giverAfter giver (sideNumber side) i ⌝ }
 {

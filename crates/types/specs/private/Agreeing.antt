@@ -9,9 +9,13 @@ use Rattle.scalars.proofs.Table.{tabulate}
 use Rattle.types.specs.TypePaper.{left, byBase, byComponent}
 use Rattle.types.specs.Conversion.{combination, agree, firstOf, withGiver}
 
--- one result for each ordered pair of scalars, a row for each left one
+-- how many ordered pairs of scalars there are
+abbrev pub pairCount : ℕ
+pairCount = 144
+
+-- one result for each of them, a row for each left scalar
 unfoldable pub combinations : List ℕ
-combinations = tabulate (λ k. combination (k / scalarCount) (k % scalarCount)) 144 0
+combinations = tabulate (λ k. combination (k / scalarCount) (k % scalarCount)) pairCount 0
 
 -- the consensus of the best so far and the components from index i on. If it is the best, whoever gave the best gave it; otherwise the
 -- first of these components whose scalar it is did
