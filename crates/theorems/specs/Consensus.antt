@@ -42,6 +42,7 @@ pub data Offered (b : Base) (ts : List ℕ) (a : ℕ) : Type 0 where
   byBase : OfBase b a → Offered b ts a
   byComponent : (k : ℕ) → OfComponent ts k a → Offered b ts a
 
+-- the scalar on offer to which every scalar on offer converts, where each component has one
 pub record Consensus (b : Base) (ts : List ℕ) (s : ℕ) : Type 0 where
   pub offered : Offered b ts s
   pub scalars : (k : ℕ) → k < length ts → getD ts k 0 < otherType
