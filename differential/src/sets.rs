@@ -137,7 +137,7 @@ fn compare_regular_questions(rules: &Crate, tally: &mut Tally, set: Regular, han
     let types = regular_types(set);
     let preferred = if types.is_empty() {
         RuleAnswer::refused(1, 0)
-    } else if set.constructors.count_ones() > 1 {
+    } else if set.constructors.count_ones() != 1 {
         RuleAnswer::refused(2, 0)
     } else if !concludes(set.conclusion, types[0]) {
         RuleAnswer::refused(13, 0)

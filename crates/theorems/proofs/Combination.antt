@@ -13,7 +13,7 @@ use Rattle.types.specs.TypePaper.{left, right}
 use Rattle.types.specs.Conversion.{none, combination, side, combined, combineOf}
 use Rattle.types.proofs.Conversions.{itself, alike}
 use Rattle.theorems.specs.Combination.{Answers, Theorem}
-use Rattle.theorems.proofs.Papers.{refused-not}
+use Rattle.theorems.proofs.Papers.{yes-not-no, refused-not}
 
 -- values that differ in their number, or in the second value
 none-not : {A : Type 0} {s m : ℕ} → accepted [] ≡ accepted (s ∷ m ∷ []) → A
@@ -21,9 +21,6 @@ none-not e = let z : _≡_ {A = ℕ} 0 1 = cc in absurd (omega arith)
 
 other-side : {A : Type 0} {s t m n : ℕ} → accepted (s ∷ m ∷ []) ≡ accepted (t ∷ n ∷ []) → (m ≡ n → ⊥) → A
 other-side {m = m} {n = n} e h = let z : m ≡ n = cc in absurd (h z)
-
-not-true : {A : Type 0} {x : Bool} → x ≡ true → x ≡ false → A
-not-true {x = x} p q = let z : _≡_ {A = ℕ} 0 1 = cc in absurd (omega arith)
 
 module _ (a b : ℕ) where
   module _ (h : a < scalarCount) (k : b < scalarCount) where
@@ -33,7 +30,7 @@ module _ (a b : ℕ) where
       unknownRight = (λ q. refused-not (sym q), λ (_, l). absurd (omega arith));
       byLeft = λ s. (λ q. let e : c ≡ s = cc in ((h, k), sym e ∙ is, y), λ (_, e, _). ap (λ (n : ℕ). accepted (n ∷ left ∷ [])) (is ∙ sym e));
       byRight = λ s. (λ q. other-side q (λ z. omega arith), λ (_, _, x, n). absurd (n (alike a b h k x y)));
-      nothing = (λ q. none-not (sym q), λ (_, _, f). not-true y f);
+      nothing = (λ q. none-not (sym q), λ (_, _, f). yes-not-no y f);
     }
 
     by-right : converts a b ≡ true → converts b a ≡ false → Answers a b (accepted (b ∷ right ∷ []))
@@ -41,20 +38,20 @@ module _ (a b : ℕ) where
         record {
           unknownLeft = (λ q. refused-not (sym q), λ l. absurd (omega arith));
           unknownRight = (λ q. refused-not (sym q), λ (_, l). absurd (omega arith));
-          byLeft = λ s. (λ q. other-side q (λ z. omega arith), λ (_, _, t). not-true t y);
+          byLeft = λ s. (λ q. other-side q (λ z. omega arith), λ (_, _, t). yes-not-no t y);
           byRight = λ s. (λ q. let e : b ≡ s = cc in ((h, k), sym e, x, unequal), λ (_, e, _, _). ap (λ (n : ℕ). accepted (n ∷ right ∷ [])) (sym e));
-          nothing = (λ q. none-not (sym q), λ (_, f, _). not-true x f);
+          nothing = (λ q. none-not (sym q), λ (_, f, _). yes-not-no x f);
         }
       where
         unequal : a ≡ b → ⊥
-        unequal e = not-true (ap (converts b) e ∙ itself b k) y
+        unequal e = yes-not-no (ap (converts b) e ∙ itself b k) y
 
     neither : converts a b ≡ false → converts b a ≡ false → Answers a b (accepted [])
     neither x y = record {
       unknownLeft = (λ q. refused-not (sym q), λ l. absurd (omega arith));
       unknownRight = (λ q. refused-not (sym q), λ (_, l). absurd (omega arith));
-      byLeft = λ s. (λ q. none-not q, λ (_, _, t). not-true t y);
-      byRight = λ s. (λ q. none-not q, λ (_, _, t, _). not-true t x);
+      byLeft = λ s. (λ q. none-not q, λ (_, _, t). yes-not-no t y);
+      byRight = λ s. (λ q. none-not q, λ (_, _, t, _). yes-not-no t x);
       nothing = (λ _. ((h, k), x, y), λ _. refl);
     }
 

@@ -7,6 +7,8 @@ pub mod ReadPapers
 pub mod RunPapers
 pub mod TypedPapers
 pub mod OneAnswer
+-- one member
+pub mod Singleton
 -- combination and consensus
 pub mod Papers
 pub mod Combination
