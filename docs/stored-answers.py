@@ -12,6 +12,12 @@ NAMED = [
     "FLOAT", "INTEGER", "NUMERIC", "ABSTRACT", "CONCRETE", "CONCRETE_INTEGER", "CONCRETE_FLOAT",
     "FLOAT_ABSTRACT_UNIMPLEMENTED", "VECN",
 ]
+ANSWERS, DATA = map(pathlib.Path, sys.argv[1:])
+
+
+def answers(name):
+    """The crate's answers of one list, as the words of each line."""
+    return [line.split() for line in (ANSWERS / (name + ".txt")).read_text().splitlines()]
 
 
 def word(n):
@@ -118,9 +124,85 @@ def calls(words):
     return [function, concrete] + list(mask.to_bytes(8, "little")) + [int(index), int(result)] + operands
 
 
+def listings():
+    """The crate's rules of each function, in the order of its full listing: the arguments, and the result. All of one function have as
+    many arguments."""
+    functions = {}
+    for function, index, count, *arguments, result in (map(int, words) for words in answers("listings")):
+        listed = functions.setdefault(function, [])
+        listed.append((arguments, result))
+        assert index == len(listed) - 1 and count == len(arguments) == len(listed[0][0])
+    return functions
+
+
+RULES = listings()
+
+# The mask of the scalars that each scalar converts to.
+CONVERTS = {int(scalar): int(mask) for scalar, mask in answers("convertible")}
+
+
+class Refused(Exception):
+    """A refusal: its number and its place."""
+
+
+def taking(function, operands):
+    """The function's rules that take the operands, which are pairs of type and place. The operand that leaves none is refused: 6 if no
+    rule that takes the operands before it has its constructor there, as none has for a type from 156 on; otherwise 16."""
+    left = RULES[function]
+    for k, (t, place) in enumerate(operands):
+        shaped = [one for one in left if one[0][k] // 12 == t // 12]
+        left = [one for one in shaped if CONVERTS[t % 12] >> one[0][k] % 12 & 1]
+        if not left:
+            raise Refused(16 if shaped else 6, place)
+    return left
+
+
+def typed(content, at, concrete):
+    """The type of a well-formed expression's node, and the offset behind it, by document 01's second pass."""
+    if content[at] == 0:
+        return content[at + 1], at + 2
+    function, count, end = content[at + 1], content[at + 2], at + 3
+    operands = []
+    for _ in range(count):
+        place = end
+        t, end = typed(content, place, concrete)
+        operands.append((t, place))
+    if count != len(RULES[function][0][0]):
+        raise Refused(5, at)
+    left = [one for one in taking(function, operands) if not concrete or all(a % 12 > 1 for a in one[0])]
+    return left[0][1], end
+
+
+def second_pass(content, concrete):
+    """Number, place and type that the second pass answers, by the crate's listings and conversions alone."""
+    try:
+        t, end = typed(content, 0, concrete)
+    except Refused as why:
+        return *why.args, 255
+    assert end == len(content)
+    return 0, 0, t
+
+
+def told_apart(content, concrete, answer):
+    """The answer, with 16 for 6 where it is the operand's scalar that no rule takes. 7, 8 and 9 come before the second pass, and 10 after
+    it; any other answer must be that pass's own but for this number."""
+    number, place, code = answer
+    if number in (7, 8, 9):
+        return answer
+    found, at, t = second_pass(content, concrete)
+    if number == 10:
+        assert found == 0
+        return answer
+    assert (6 if found == 16 else found, at, t) == (number, place, code)
+    return found, place, code
+
+
 def refused(words):
     function, *operands, arrow, argument = words
-    return [int(function), int(argument)] + [int(w) for w in operands]
+    function, argument, operands = int(function), int(argument), [int(w) for w in operands]
+    content = call(function, *[leaf(t) for t in operands])
+    number, _, _ = told_apart(content, 0, (6, 3 + 2 * argument, 255))
+    return [function, argument, number] + operands
 
 
 def allowed(words):
@@ -140,14 +222,21 @@ def hexed(text):
     return list(bytes.fromhex("" if text == "-" else text))
 
 
+def answered(content, concrete, size, answer, sheet):
+    """A record of an expression from the words of a line."""
+    content, concrete = hexed(content), int(concrete)
+    answer = told_apart(content, concrete, tuple(map(int, answer)))
+    return expression(content, concrete, int(size), answer, hexed(sheet))
+
+
 def worksheets(words):
     content, concrete, arrow, *answer, sheet = words
-    return expression(hexed(content), int(concrete), 508, map(int, answer), hexed(sheet))
+    return answered(content, concrete, 508, answer, sheet)
 
 
 def room(words):
     content, concrete, size, arrow, *answer, sheet = words
-    return expression(hexed(content), int(concrete), int(size), map(int, answer), hexed(sheet))
+    return answered(content, concrete, size, answer, sheet)
 
 
 # Document 01's limits of a List, not the crate's: the number of the answer, and the rules.
@@ -178,7 +267,8 @@ def boundary(number, texts):
     return [number] + rules(texts)
 
 
-# Document 01's limits of an expression and its error that looks right, not the crate's: the expression, the buffer's size, number, place and type, and the worksheet.
+# Document 01's limits of an expression and its error that looks right, with document 02's number for that, not the crate's: the
+# expression, the buffer's size, number, place and type, and the worksheet.
 ABS, CLAMP, POW, DISTANCE, INSERT_BITS = 0, 4, 32, 66, 78
 ABSTRACT_FLOAT, I32, U32, F32, F16 = 1, 2, 5, 8, 9
 
@@ -232,7 +322,7 @@ LIMITS = [
     (NODES_64, 256, (0, 0, F32), NODES_64_SHEET),
     (NODES_64, 255, (10, 256, 255), []),
     (NODES_64, 0, (10, 256, 255), []),
-    (call(POW, call(DISTANCE, leaf(ABSTRACT_FLOAT), leaf(ABSTRACT_FLOAT)), leaf(F16)), 508, (6, 10, 255), []),
+    (call(POW, call(DISTANCE, leaf(ABSTRACT_FLOAT), leaf(ABSTRACT_FLOAT)), leaf(F16)), 508, (16, 10, 255), []),
 ]
 
 
@@ -268,20 +358,19 @@ def given(base, components, scalar, by):
 LISTS = [combine, convertible, named_sets, consensus, handsets, calls, refused, allowed, worksheets, room]
 
 
-def store(path, records):
+def store(name, records):
     stored = bytes(byte for record in records for byte in part(record))
-    assert len(stored) < 262144, path
-    path.write_bytes(stored)
+    assert len(stored) < 262144, name
+    (DATA / name).write_bytes(stored)
 
 
-def main(answers, data):
+def main():
     for make in LISTS:
         name = make.__name__
-        lines = (answers / (name + ".txt")).read_text().splitlines()
-        store(data / name, [make(line.split()) for line in lines])
-    store(data / "boundary", [boundary(*line) for line in BOUNDARY])
-    store(data / "limits", [limit(*line) for line in LIMITS])
-    store(data / "givers", [given(*line) for line in GIVERS])
+        store(name, [make(words) for words in answers(name)])
+    store("boundary", [boundary(*line) for line in BOUNDARY])
+    store("limits", [limit(*line) for line in LIMITS])
+    store("givers", [given(*line) for line in GIVERS])
 
 
-main(pathlib.Path(sys.argv[1]), pathlib.Path(sys.argv[2]))
+main()

@@ -60,8 +60,9 @@ enum azwukran_number {
     AZWUKRAN_NO_ARGUMENT = 4,
     /* A call has fewer arguments than the least or more than the most. Place: 0; in an expression, the call's offset. */
     AZWUKRAN_COUNT = 5,
-    /* No rule is left after this argument. Place: 1 + its index; in an expression, the offset of its first byte. */
-    AZWUKRAN_ARGUMENT = 6,
+    /* An argument of a call has the wrong shape: of the rules that take those before it, none has its constructor there.
+     * Place: 1 + its index; in an expression, the offset of its first byte. */
+    AZWUKRAN_SHAPE = 6,
     /* An unknown function, type code, scalar, index, set bit or conclusion. Place: 0 for the function, for the base of a
      * consensus, or for a set; 1 + index for a type or a component; 1 for the index of a rule; in an expression, the offset
      * of the byte. */
@@ -83,7 +84,10 @@ enum azwukran_number {
     AZWUKRAN_UNKNOWN_RUN = 14,
     /* A text has more than 4,096 bytes, or something else in it is misplaced or missing. Place: 4096; the offset of what is
      * misplaced; the text's length for what is missing at its end. */
-    AZWUKRAN_MISPLACED = 15
+    AZWUKRAN_MISPLACED = 15,
+    /* An argument of a call has the wrong number type: rules are left with its shape, and none of them has a scalar there that
+     * its own converts to. Place: as for 6. */
+    AZWUKRAN_NUMBER_TYPE = 16
 };
 
 /* A chosen rule. */
@@ -163,7 +167,8 @@ enum { AZWUKRAN_BY_BASE = 0, AZWUKRAN_BY_COMPONENT = 1 };
 enum { AZWUKRAN_STOPPED = 255 };
 
 /* Resolves a call: the rule that `function` prefers for operands of these types (0 to 180). concrete_only is 0 or 1; with
- * 1, rules with an abstract argument are dropped after the arguments. Refusals, tested in this order: 7, 5, 6, 1. */
+ * 1, rules with an abstract argument are dropped after the arguments. Refusals, tested in this order: 7, 5, then 6 and 16 for
+ * each operand in turn, then 1. */
 azwukran_chosen_answer azwukran_call(uint8_t function, const uint8_t *operands, size_t n, uint8_t concrete_only);
 
 /* The rules that survive the same call, as a mask over the function's full listing, written to the front of `out`, which has
@@ -183,9 +188,9 @@ azwukran_consensus_answer azwukran_consensus(uint8_t base, const uint8_t *compon
  * An expression is in prefix form: a leaf is 0, type (0 to 156); a call is 1, function, number of arguments, and then its
  * arguments. concrete_only (0 or 1) concerns every call. A worksheet is lines of four bytes: 0, type, 0, 0 pushes a leaf;
  * 2, depth from the top, type, 0 converts an operand; 1, function, index, number of arguments calls. Refusals: 8, 9, 7 in the
- * order of the bytes, then 5, 6, 1 call by call, then 10. An accepted worksheet is the first `length` bytes of `out`, and the
- * bytes behind it keep theirs. To learn the length without lending any, ask with room 0: an expression that is right but for
- * that is refused by 10, with the length as its place. */
+ * order of the bytes; then, call by call, 5, 6 and 16 for each argument in turn, 1; then 10. An accepted worksheet is the
+ * first `length` bytes of `out`, and the bytes behind it keep theirs. To learn the length without lending any, ask with room
+ * 0: an expression that is right but for that is refused by 10, with the length as its place. */
 azwukran_type_answer azwukran_type(const uint8_t *bytes, size_t n, uint8_t concrete_only, uint8_t *out, size_t room);
 
 /* Texts
@@ -222,12 +227,23 @@ azwukran_run_answer azwukran_run(const uint8_t *sheet, size_t n);
  * the two. Bytes of the mask beyond those that the rules need are not read. Every question refuses a last rule cut short (8,
  * at its offset), then a mask cut short (8, at m), then an unknown type, or a member that is no rule (7), then more than 63
  * rules, or a rule of more than 4 arguments (3), these at place 0. Arguments are 0 to 155, results 0 to 180; of more than 63
- * rules the first 63 are tested for this. */
+ * rules the first 63 are tested for this.
+ *
+ * An argument of a type at an index is tried in two steps. The step by its shape keeps the rules whose constructor there is
+ * the type's; the step by its number type keeps those whose scalar there is one that the type's scalar converts to. Both, in
+ * either order, leave the rules that take the argument. A rule without that index goes at either step. The type is 0 to 180;
+ * another is refused by 7 at place 0, before any 3. Those from 156 on have neither constructor nor scalar and leave no rule at
+ * either step. A set that is left empty is answered, not refused. */
 
-/* The set that an argument of this type (0 to 180; another is refused by 7) at this index leaves. An index at or above the
- * arity leaves the empty set, all 0. */
-azwukran_regular_answer azwukran_regular_arg(uint8_t arity, uint16_t constructors, uint16_t scalars, uint8_t conclusion,
-                                             size_t index, uint8_t type);
+/* The set that an argument's shape leaves: of the constructors the type's, and the other parts as they are, also where no
+ * constructor is left. An index at or above the arity leaves the empty set, all 0. */
+azwukran_regular_answer azwukran_regular_arg_shape(uint8_t arity, uint16_t constructors, uint16_t scalars,
+                                                   uint8_t conclusion, size_t index, uint8_t type);
+
+/* The set that an argument's number type leaves: of the scalars those that the type's converts to, and the other parts as
+ * they are, also where no scalar is left. An index at or above the arity leaves the empty set, all 0. */
+azwukran_regular_answer azwukran_regular_arg_number(uint8_t arity, uint16_t constructors, uint16_t scalars,
+                                                    uint8_t conclusion, size_t index, uint8_t type);
 
 /* The set without ABSTRACT_INT and ABSTRACT_FLOAT. */
 azwukran_regular_answer azwukran_regular_concrete_only(uint8_t arity, uint16_t constructors, uint16_t scalars,
@@ -242,10 +258,14 @@ azwukran_rule_answer azwukran_regular_preferred(uint8_t arity, uint16_t construc
 azwukran_rule_answer azwukran_regular_rule(uint8_t arity, uint16_t constructors, uint16_t scalars, uint8_t conclusion,
                                            uint8_t index);
 
-/* The members that an argument of this type (0 to 180; another is refused by 7) at this index leaves, as a mask written to
- * the front of `out`, which has `room` bytes: (n / 6 + 7) / 8 are needed. */
-azwukran_mask_answer azwukran_list_arg(const uint8_t *rules, size_t n, const uint8_t *members, size_t m, size_t index,
-                                       uint8_t type, uint8_t *out, size_t room);
+/* The members that an argument's shape leaves, as a mask written to the front of `out`, which has `room` bytes:
+ * (n / 6 + 7) / 8 are needed. */
+azwukran_mask_answer azwukran_list_arg_shape(const uint8_t *rules, size_t n, const uint8_t *members, size_t m, size_t index,
+                                             uint8_t type, uint8_t *out, size_t room);
+
+/* The members that an argument's number type leaves, in the same form. */
+azwukran_mask_answer azwukran_list_arg_number(const uint8_t *rules, size_t n, const uint8_t *members, size_t m, size_t index,
+                                              uint8_t type, uint8_t *out, size_t room);
 
 /* The members without an argument of ABSTRACT_INT or ABSTRACT_FLOAT, in the same form. */
 azwukran_mask_answer azwukran_list_concrete_only(const uint8_t *rules, size_t n, const uint8_t *members, size_t m,

@@ -72,7 +72,7 @@ fn time_calls<'a>(rules: &Crate, name: &str, draw: &mut dyn FnMut() -> &'a Accep
     );
 }
 
-/// One argument step on a Regular set that stands ready on both sides.
+/// One argument step of the crate, and both of ours, on a Regular set that stands ready on both sides.
 fn bench_regular_steps(rules: &Crate, seed: u64) {
     let mut random = Random::new(seed);
     let inputs: Vec<(Regular, Hand, usize, u8)> = (0..INPUTS)
@@ -88,18 +88,20 @@ fn bench_regular_steps(rules: &Crate, seed: u64) {
         })
         .collect();
     time(
-        "a step on a Regular set",
+        "a step on a Regular set, two of ours",
         &inputs,
         |(_, hand, index, code)| {
             black_box(rules.hand_step(hand, *index, *code));
         },
         |(set, _, index, code)| {
-            black_box(set.arg(*index, *code));
+            let left = set.arg_shape(*index, *code).unpack();
+            let _ = black_box(left.map(|left| left.arg_number(*index, *code)));
         },
     );
 }
 
-/// One argument step on the full List of a function, which the crate has ready and ours reads from its bytes.
+/// One argument step of the crate, and both of ours, on the full List of a function, which the crate has ready and each
+/// of ours reads from its bytes.
 fn bench_list_steps(rules: &Crate, seed: u64) {
     let mut random = Random::new(seed);
     let lists: Vec<(u8, Vec<u8>, Hand)> = (0..FUNCTIONS.len() as u8)
@@ -120,13 +122,15 @@ fn bench_list_steps(rules: &Crate, seed: u64) {
         })
         .collect();
     time(
-        "a step on a List, ours from bytes",
+        "a step on a List, two of ours, bytes",
         &inputs,
         |(_, _, hand, index, code)| {
             black_box(rules.hand_step(hand, *index, *code));
         },
         |(bytes, members, _, index, code)| {
-            black_box(Masked::asked(LENT, |out| List { rules: bytes, members }.arg(*index, *code, out)));
+            let left = Masked::asked(LENT, |out| List { rules: bytes, members }.arg_shape(*index, *code, out));
+            let left = List { rules: bytes, members: &left.lent };
+            black_box(Masked::asked(LENT, |out| left.arg_number(*index, *code, out)));
         },
     );
 }

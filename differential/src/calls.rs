@@ -61,7 +61,8 @@ impl Calls<'_> {
             let left = self.rules.step(set, argument, code);
             operands.push(code);
             if left.is_empty() {
-                self.endings(function, operands, arity, self.effort.endings, Outcome::refused(6, 1 + argument));
+                let number = self.rules.emptying(set, argument, code).refusal();
+                self.endings(function, operands, arity, self.effort.endings, Outcome::refused(number, 1 + argument));
             } else if operands.len() < arity {
                 self.walk(function, &left, operands);
             } else {

@@ -48,7 +48,7 @@ fn compare_readings(rules: &Crate) -> u64 {
         tally.check(&printed, &of_crate, || format!("{question}, on the crate's side"));
         tally.check(&printed, &of_ours, || format!("{question}, on ours"));
     }
-    tally.sum_up("document 01's, and two of who gave a scalar, each on both sides")
+    tally.sum_up("document 01's, two of who gave a scalar and two of a wrong shape, each on both sides")
 }
 
 /// Every function number and index, known or not.
@@ -154,7 +154,7 @@ fn panics_over_nothing(asker: &Asker) -> bool {
 fn compare_expressions(rules: &Crate, effort: &Effort, seed: u64) -> u64 {
     let mut tally = Tally::new("expressions");
     let mut generator = Generator::new(rules, seed);
-    let mut by_number = [0u64; 14];
+    let mut by_number = [0u64; 17];
     for _ in 0..effort.expressions {
         let bytes = generator.any();
         for concrete_only in [false, true] {
@@ -174,7 +174,7 @@ fn compare_expressions(rules: &Crate, effort: &Effort, seed: u64) -> u64 {
             }
         }
     }
-    let counts: Vec<String> = (0..14)
+    let counts: Vec<String> = (0..by_number.len())
         .filter(|&number| by_number[number] > 0)
         .map(|number| format!("{number}: {}", grouped(by_number[number])))
         .collect();

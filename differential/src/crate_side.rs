@@ -1,15 +1,16 @@
 //! The crate's side: naga's own overload sets and consensus, asked through its public interface, with the answers in
 //! document 01's numbers. Nothing of the resolution is repeated here. What is added is the order in which document 01
-//! asks (which argument empties the set, and what is refused before the crate is reached), the numbering of rules, and
-//! who gave a consensus its scalar.
+//! asks (which argument empties the set, and what is refused before the crate is reached), the numbering of rules, who
+//! gave a consensus its scalar, and the two steps that change request (iv) makes of the crate's argument step: a filter of
+//! what the crate lists, by the constructors and conversions that it has.
 
 use naga::ir::{MathFunction, Module, Scalar, Type, TypeInner};
-use naga::proc::overloads_oracle::Hand;
+use naga::proc::overloads_oracle::{constructor_of, convertible_from, Hand};
 use naga::proc::{Conclusion, OverloadSet, Rule, TypeResolution};
 use naga::{Handle, Span};
 
 use crate::numbering::{self, FUNCTIONS, LAST_CODE, NONE, OPAQUE, SCALAR_COUNT};
-use crate::ours::{self, ChosenAnswer, ConsensusAnswer, Giver, Masked, Refused, RuleAnswer};
+use crate::ours::{self, ChosenAnswer, ConsensusAnswer, Giver, Masked, Part, Refused, RuleAnswer};
 
 /// A rule in type codes.
 #[derive(Clone, Debug, PartialEq, Eq)]
@@ -49,8 +50,8 @@ impl RuleCodes {
 pub enum Refusal {
     /// Refusal 5: too few or too many arguments.
     Count,
-    /// Refusal 6: no rule is left after this argument, counted from 0.
-    Argument(usize),
+    /// Refusal 6 or 16: no rule is left after this part of this argument, counted from 0.
+    Argument(Part, usize),
     /// Refusal 1: the concrete-only step left no rule.
     Empty,
 }
@@ -118,7 +119,37 @@ impl Crate {
         set.arg(argument, &self.inners[code as usize], &self.module.types)
     }
 
-    /// Resolves a call of a known function with known types: the crate's own work and no more.
+    /// The part of an argument that leaves no rule, where the crate's step leaves none: its shape if none of the rules
+    /// that the crate lists before the step has it, otherwise its number type.
+    pub fn emptying<S: OverloadSet>(&self, set: &S, argument: usize, code: u8) -> Part {
+        let listed = set.overload_list(&self.module.to_ctx());
+        if listed.iter().any(|rule| self.fits(rule, Part::Shape, argument, code)) {
+            Part::Number
+        } else {
+            Part::Shape
+        }
+    }
+
+    /// Whether a rule has this argument, and it fits this part of a type. The crate says which constructor and scalar a
+    /// type has, if any, and which scalars convert.
+    fn fits(&self, rule: &Rule, part: Part, argument: usize, code: u8) -> bool {
+        let types = &self.module.types;
+        let operand = &self.inners[code as usize];
+        let Some(wanted) = rule.arguments.get(argument).map(|wanted| wanted.inner_with(types)) else { return false };
+        match part {
+            Part::Shape => constructor_of(operand) & constructor_of(wanted) != 0,
+            Part::Number => match (operand.scalar_for_conversions(types), wanted.scalar_for_conversions(types)) {
+                (Some(from), Some(to)) => {
+                    let (from, to) = (TypeInner::Scalar(from), TypeInner::Scalar(to));
+                    from.non_struct_equivalent(&to, types) || from.automatically_converts_to(&to, types).is_some()
+                }
+                _ => false,
+            },
+        }
+    }
+
+    /// Resolves a call of a known function with known types: the crate's own work and, where it leaves no rule, what
+    /// left none.
     pub fn preferred(&self, function: u8, operands: &[u8], concrete_only: bool) -> Result<Rule, Refusal> {
         let set = self.resolve(FUNCTIONS[function as usize], operands, concrete_only)?;
         Ok(set.most_preferred())
@@ -135,10 +166,11 @@ impl Crate {
             return Err(Refusal::Count);
         }
         for (argument, &code) in operands.iter().enumerate() {
-            set = self.step(&set, argument, code);
-            if set.is_empty() {
-                return Err(Refusal::Argument(argument));
+            let left = self.step(&set, argument, code);
+            if left.is_empty() {
+                return Err(Refusal::Argument(self.emptying(&set, argument, code), argument));
             }
+            set = left;
         }
         self.concrete(set, concrete_only)
     }
@@ -163,7 +195,7 @@ impl Crate {
         match self.resolve(FUNCTIONS[function as usize], operands, concrete_only) {
             Ok(set) => self.accepted(function, &set),
             Err(Refusal::Count) => Outcome::refused(5, 0),
-            Err(Refusal::Argument(argument)) => Outcome::refused(6, 1 + argument),
+            Err(Refusal::Argument(part, argument)) => Outcome::refused(part.refusal(), 1 + argument),
             Err(Refusal::Empty) => Outcome::refused(1, 0),
         }
     }
@@ -219,6 +251,27 @@ impl Crate {
     /// What a set made by hand is left with after an argument.
     pub fn hand_step(&self, set: &Hand, argument: usize, code: u8) -> Hand {
         set.arg(argument, &self.inners[code as usize], &self.module.types)
+    }
+
+    /// What a set made by hand is left with after one part of an argument, for which the crate has no step: of a Regular
+    /// set's masks one, with the other as it is; of a List the rules that fit, in the crate's order.
+    pub fn hand_part(&self, set: &Hand, part: Part, argument: usize, code: u8) -> Hand {
+        let operand = &self.inners[code as usize];
+        match set.parts() {
+            Some((arity, ..)) if argument >= arity => Hand::empty_regular(),
+            Some((arity, constructors, scalars, conclusion)) => match part {
+                Part::Shape => Hand::regular(arity, constructors & constructor_of(operand), scalars, conclusion),
+                Part::Number => {
+                    let reached = operand.scalar_for_conversions(&self.module.types).map_or(0, convertible_from);
+                    Hand::regular(arity, constructors, scalars & reached, conclusion)
+                }
+            },
+            None => {
+                let mut left = set.overload_list(&self.module.to_ctx());
+                left.retain(|rule| self.fits(rule, part, argument, code));
+                Hand::list(left)
+            }
+        }
     }
 
     /// What a set made by hand is left with after the concrete-only step.

@@ -1,6 +1,7 @@
 //! An independent typer of expressions, written in Rust from document 01 over the crate's overload sets: the first pass
 //! reads the bytes into nodes and answers the first fault, the second types arguments before their call and writes the
-//! worksheet. The crate knows neither expressions nor worksheets; what it decides here is the rule of each call.
+//! worksheet. The crate knows neither expressions nor worksheets; what it decides here is the rule of each call, or what
+//! leaves none.
 
 use crate::crate_side::{Crate, Refusal};
 use crate::numbering::{FUNCTIONS, LAST_LEAF};
@@ -121,7 +122,7 @@ impl Work<'_> {
         let preferred =
             self.rules.preferred(function, &operands, self.concrete_only).map_err(|refusal| match refusal {
                 Refusal::Count => TypeAnswer::refused(5, offset),
-                Refusal::Argument(argument) => TypeAnswer::refused(6, offsets[argument]),
+                Refusal::Argument(part, argument) => TypeAnswer::refused(part.refusal(), offsets[argument]),
                 Refusal::Empty => TypeAnswer::refused(1, offset),
             })?;
         let index = self.rules.index(function, &preferred);

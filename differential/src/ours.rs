@@ -92,6 +92,48 @@ pub fn left(set: Regular) -> RegularAnswer {
     RegularAnswer { number: 0, arity, constructors, scalars, conclusion, place: 0 }
 }
 
+/// The part of an argument's type that a step asks about. Change request (iv) makes two steps of the crate's one.
+#[derive(Clone, Copy, Debug, PartialEq, Eq)]
+pub enum Part {
+    /// The constructor.
+    Shape,
+    /// The scalar.
+    Number,
+}
+
+impl Part {
+    pub fn other(self) -> Part {
+        match self {
+            Part::Shape => Part::Number,
+            Part::Number => Part::Shape,
+        }
+    }
+
+    /// The refusal of a call where the step by this part of an operand leaves no rule.
+    pub fn refusal(self) -> u8 {
+        match self {
+            Part::Shape => 6,
+            Part::Number => 16,
+        }
+    }
+}
+
+/// What the step by this part of an argument leaves of a Regular set.
+pub fn regular_arg(set: Regular, part: Part, index: usize, code: u8) -> RegularAnswer {
+    match part {
+        Part::Shape => set.arg_shape(index, code),
+        Part::Number => set.arg_number(index, code),
+    }
+}
+
+/// What the step by this part of an argument leaves of a List, as a mask.
+pub fn list_arg(list: List, part: Part, index: usize, code: u8, out: &mut [u8]) -> MaskAnswer {
+    match part {
+        Part::Shape => list.arg_shape(index, code, out),
+        Part::Number => list.arg_number(index, code, out),
+    }
+}
+
 /// How many bytes are lent for a mask, some more than any mask here needs.
 pub const LENT: usize = 12;
 

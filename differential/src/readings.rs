@@ -1,7 +1,7 @@
 //! Document 01's readings at the bench for calls, consensus and expressions. Where it prints a part of an answer, the rest
 //! was worked out by hand from its rules. Who gave the scalar of a consensus is document 02's request (ii), worked out in
-//! the same way, with two readings of its own. Both sides must give them, so the other side of the comparison is held to
-//! the documents, too.
+//! the same way, with two readings of its own. Refusal 16, for Sin(5) and both Pow examples, is its request (iv)'s; two
+//! readings of its own are 6. Both sides must give them, so the other side of the comparison is held to the documents, too.
 
 use crate::crate_side::{Asker, Crate, Outcome, RuleCodes};
 use crate::expressions;
@@ -29,15 +29,18 @@ fn calls(rules: &Crate) -> Vec<Reading> {
         call: ours::chosen(index, RuleCodes { arguments: arguments.to_vec(), result }.answer()),
         survivors: Masked::of(survivors, rules),
     };
-    let table: [(&str, u8, &[u8], Outcome); 8] = [
+    let table: [(&str, u8, &[u8], Outcome); 10] = [
         ("Clamp", 4, &[0, 5, 0], accepted(5, &[5, 5, 5], 5, 1 << 5, 44)),
-        ("Sin", 5, &[5], Outcome::refused(6, 1)),
+        ("Sin", 5, &[5], Outcome::refused(16, 1)),
         ("Sin", 5, &[0], accepted(0, &[1], 1, 0b1111, 16)),
         ("Distance", 66, &[0, 0], accepted(0, &[8, 8], 8, 0b111, 12)),
-        ("Pow", 32, &[8, 9], Outcome::refused(6, 2)),
+        ("Pow", 32, &[8, 9], Outcome::refused(16, 2)),
         ("Mix", 72, &[8, 8, 8], accepted(8, &[8, 8, 8], 8, 1 << 8 | 1 << 9, 32)),
         ("Mix", 72, &[20, 20, 8], accepted(11, &[20, 20, 8], 20, 1 << 11, 32)),
         ("Transpose", 74, &[61], accepted(4, &[61], 85, 0b1111 << 4, 36)),
+        // Request (iv)'s: a texture, and a vector beside a scalar, whose number type is wrong, too.
+        ("Sin", 5, &[156], Outcome::refused(6, 1)),
+        ("Pow", 32, &[8, 21], Outcome::refused(6, 2)),
     ];
     let ask = |(name, function, operands, printed): (&str, u8, &[u8], Outcome)| {
         let call = ours::call(function, operands, false);
@@ -83,7 +86,7 @@ fn typing(rules: &Crate) -> Vec<Reading> {
         printed(clamp.clone(), 24, ours::typed(5, 24), Some(clamp_sheet)),
         printed(clamp, 23, TypeAnswer::refused(10, 24), None),
         // Pow(Distance(1, 1), 9): Distance has already answered F32.
-        printed(vec![1, 32, 2, 1, 66, 2, 0, 1, 0, 1, 0, 9], room, TypeAnswer::refused(6, 10), None),
+        printed(vec![1, 32, 2, 1, 66, 2, 0, 1, 0, 1, 0, 9], room, TypeAnswer::refused(16, 10), None),
         printed(vec![1, 78, 4, 0, 2, 0, 2, 0, 5, 0, 5], room, ours::typed(2, 20), None),
         printed(vec![1, 79, 0], room, TypeAnswer::refused(7, 1), None),
         printed(chain(16), room, ours::typed(8, 64), None),

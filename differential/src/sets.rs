@@ -1,12 +1,16 @@
 //! Sets made by hand on both sides: Regular sets and Lists after any steps, with their listings and preferred rules. The
-//! crate's set types are private; its hook lends them. Where the crate would panic, document 01's refusal is expected.
+//! crate's set types are private; its hook lends them. Where the crate would panic, document 01's refusal is expected. Of
+//! the two argument steps the crate has none alone: what one leaves is filtered from what the crate lists. What both leave,
+//! in either order, is compared with the crate's own step.
 
 use naga::proc::overloads_oracle::Hand;
 
 use crate::crate_side::{rule_codes, Crate, RuleCodes};
 use crate::generate::any_code;
 use crate::numbering::{LAST_CODE, OPAQUE, SCALAR_COUNT};
-use crate::ours::{self, mask_bytes, ChosenAnswer, List, Masked, Refused, Regular, RegularAnswer, RuleAnswer, LENT};
+use crate::ours::{
+    self, mask_bytes, ChosenAnswer, List, Masked, Part, Refused, Regular, RegularAnswer, RuleAnswer, LENT,
+};
 use crate::random::Random;
 use crate::tally::{grouped, Tally};
 
@@ -16,7 +20,7 @@ const MOST_ARGUMENTS: u8 = 4;
 const MOST_RULES: usize = 63;
 const RULE_BYTES: usize = 6;
 
-/// Both kinds of set, so many of each, up to six steps each.
+/// Both kinds of set, so many of each, up to six draws of steps each.
 pub fn compare_sets(rules: &Crate, sets: usize, seed: u64) -> u64 {
     let mut tally = Tally::new("sets made by hand");
     let mut random = Random::new(seed);
@@ -25,33 +29,66 @@ pub fn compare_sets(rules: &Crate, sets: usize, seed: u64) -> u64 {
         compare_list(rules, &mut tally, &mut random);
     }
     tally.sum_up(&format!(
-        "{} Regular sets and as many Lists, each after 0 to 6 steps: masks or members, listing, preferred rule, refusals",
+        "{} Regular sets and as many Lists, each after 0 to 6 draws of a shape step, a number step, both in either order, \
+         or the concrete-only step: masks or members, listing, preferred rule, refusals",
         grouped(sets as u64)
     ))
 }
 
-/// A step: an argument of a type, or concrete-only.
+/// A step: a part of an argument of a type, or concrete-only.
 #[derive(Clone, Copy, Debug)]
 enum Step {
-    Argument(usize, u8),
+    Argument(Part, usize, u8),
     ConcreteOnly,
 }
 
-/// A step that often leaves some of the rules with these argument types.
-fn any_step(random: &mut Random, types: &[u8]) -> Step {
+/// What is drawn: a step by itself, or both parts of an argument of a type, the named one first.
+#[derive(Clone, Copy, Debug)]
+enum Draw {
+    Lone(Step),
+    Pair(Part, usize, u8),
+}
+
+/// Steps that often leave some of the rules with these argument types.
+fn any_draw(random: &mut Random, types: &[u8]) -> Draw {
     if random.once_in(6) {
-        return Step::ConcreteOnly;
+        return Draw::Lone(Step::ConcreteOnly);
     }
     let index = random.mostly_below(3, 7);
-    let near = if types.is_empty() { 0 } else { *random.pick(types) };
+    let mut any_type = || if types.is_empty() { 0 } else { *random.pick(types) };
+    let (near, other) = (any_type(), any_type());
     let code = match random.below(12) {
         0 => any_code(random),
         1 => LAST_CODE + 1 + random.below(75) as u8,
         // The same shape over an abstract scalar converts; the type itself fits.
-        2..=5 => near - near % SCALAR_COUNT + random.below(2) as u8,
+        2..=4 => near - near % SCALAR_COUNT + random.below(2) as u8,
+        // The shape of one type over the scalar of another: each step may leave rules, and both none.
+        5..=6 => near - near % SCALAR_COUNT + other % SCALAR_COUNT,
         _ => near,
     };
-    Step::Argument(index, code)
+    let part = if random.once_in(2) { Part::Shape } else { Part::Number };
+    if random.once_in(2) {
+        Draw::Pair(part, index, code)
+    } else {
+        Draw::Lone(Step::Argument(part, index, code))
+    }
+}
+
+/// The steps of a draw, each with the set that the crate's side has behind it; none where the type is unknown. Behind a
+/// pair it is what the crate's own argument step leaves of the set before the pair.
+fn steps(rules: &Crate, hand: &Hand, draw: Draw) -> Vec<(Step, Option<Hand>)> {
+    let known = |code: u8| code <= LAST_CODE;
+    let alone = |part: Part, index: usize, code: u8| {
+        (Step::Argument(part, index, code), known(code).then(|| rules.hand_part(hand, part, index, code)))
+    };
+    match draw {
+        Draw::Lone(Step::ConcreteOnly) => vec![(Step::ConcreteOnly, Some(rules.hand_concrete(hand.clone())))],
+        Draw::Lone(Step::Argument(part, index, code)) => vec![alone(part, index, code)],
+        Draw::Pair(first, index, code) => {
+            let both = known(code).then(|| rules.hand_step(hand, index, code));
+            vec![alone(first, index, code), (Step::Argument(first.other(), index, code), both)]
+        }
+    }
 }
 
 /// A mask of some of the lowest bits; seldom one with a bit beyond them.
@@ -89,44 +126,49 @@ fn concludes(conclusion: u8, code: u8) -> bool {
 }
 
 fn compare_regular(rules: &Crate, tally: &mut Tally, random: &mut Random) {
-    let mut ours = Regular {
+    let mut set = Regular {
         arity: random.mostly_below(5, 8) as u8,
         constructors: any_mask(random, CONSTRUCTORS),
         scalars: any_mask(random, SCALAR_COUNT.into()),
         conclusion: random.mostly_below(10, 12) as u8,
     };
-    if let Some(number) = regular_fault(ours) {
-        compare_refused_regular(tally, ours, number);
+    if let Some(number) = regular_fault(set) {
+        compare_refused_regular(tally, set, number);
         return;
     }
-    let mut hand = Hand::regular(ours.arity.into(), ours.constructors, ours.scalars, ours.conclusion);
-    compare_regular_questions(rules, tally, ours, &hand);
+    let mut hand = Hand::regular(set.arity.into(), set.constructors, set.scalars, set.conclusion);
+    compare_regular_questions(rules, tally, set, &hand);
     for _ in 0..random.below(7) {
-        let step = any_step(random, &regular_types(ours));
-        let left = match step {
-            Step::Argument(index, code) => ours.arg(index, code),
-            Step::ConcreteOnly => ours.concrete_only(),
-        };
-        let told = || format!("{ours:?} and {step:?}");
-        hand = match step {
-            Step::Argument(_, code) if code > LAST_CODE => {
+        let draw = any_draw(random, &regular_types(set));
+        // The second step of a pair begins with what the first one of ours left.
+        let mut ours = set;
+        for (step, behind) in steps(rules, &hand, draw) {
+            let left = match step {
+                Step::Argument(part, index, code) => ours::regular_arg(ours, part, index, code),
+                Step::ConcreteOnly => ours.concrete_only(),
+            };
+            let told = || format!("{ours:?} and {step:?} of {draw:?}");
+            let Some(behind) = behind else {
                 tally.check(RegularAnswer::refused(7, 0), left, told);
                 continue;
-            }
-            Step::Argument(index, code) => rules.hand_step(&hand, index, code),
-            Step::ConcreteOnly => rules.hand_concrete(hand),
-        };
-        let (arity, constructors, scalars, conclusion) = hand.parts().expect("a step leaves a set of its kind");
-        let expected = Regular { arity: arity as u8, constructors, scalars, conclusion };
-        tally.check(ours::left(expected), left, told);
-        ours = expected;
-        compare_regular_questions(rules, tally, ours, &hand);
+            };
+            let (arity, constructors, scalars, conclusion) = behind.parts().expect("a step leaves a set of its kind");
+            set = Regular { arity: arity as u8, constructors, scalars, conclusion };
+            hand = behind;
+            tally.check(ours::left(set), left, told);
+            compare_regular_questions(rules, tally, set, &hand);
+            ours = left.unpack().unwrap_or(set);
+        }
     }
 }
 
 fn compare_refused_regular(tally: &mut Tally, set: Regular, number: u8) {
     let told = || format!("{set:?}");
-    tally.check(RegularAnswer::refused(number, 0), set.arg(0, 8), told);
+    for part in [Part::Shape, Part::Number] {
+        tally.check(RegularAnswer::refused(number, 0), ours::regular_arg(set, part, 0, 8), told);
+        // An unknown type comes before too many arguments.
+        tally.check(RegularAnswer::refused(7, 0), ours::regular_arg(set, part, 0, LAST_CODE + 1), told);
+    }
     tally.check(RegularAnswer::refused(number, 0), set.concrete_only(), told);
     tally.check(RuleAnswer::refused(number, 0), set.preferred(), told);
     tally.check(RuleAnswer::refused(number, 0), set.rule(0), told);
@@ -254,7 +296,14 @@ fn compare_list(rules: &Crate, tally: &mut Tally, random: &mut Random) {
         Err((number, place)) => {
             let told = || format!("the List {:?} with members {:?}", list.bytes, list.members);
             let room = random.below(LENT + 1);
-            tally.check(Masked::refused(number, place), Masked::asked(room, |out| list.list().arg(0, 8, out)), told);
+            // Bytes cut short come before an unknown type, and that before too many rules or arguments.
+            let unknown = if number == 8 { (8, place) } else { (7, 0) };
+            for part in [Part::Shape, Part::Number] {
+                for (code, (number, place)) in [(8, (number, place)), (LAST_CODE + 1, unknown)] {
+                    let answered = Masked::asked(room, |out| ours::list_arg(list.list(), part, 0, code, out));
+                    tally.check(Masked::refused(number, place), answered, told);
+                }
+            }
             tally.check(
                 Masked::refused(number, place),
                 Masked::asked(room, |out| list.list().concrete_only(out)),
@@ -269,32 +318,31 @@ fn compare_list(rules: &Crate, tally: &mut Tally, random: &mut Random) {
     let needed = mask_bytes(listed.len());
     compare_list_preferred(tally, &list, &listed, &hand);
     for _ in 0..random.below(7) {
-        let step = any_step(random, &types);
-        let ask = |room: usize| {
-            Masked::asked(room, |out| match step {
-                Step::Argument(index, code) => list.list().arg(index, code, out),
-                Step::ConcreteOnly => list.list().concrete_only(out),
-            })
-        };
-        let told = || format!("the List {:?} with members {:?} and {step:?}", list.bytes, list.members);
-        hand = match step {
-            Step::Argument(_, code) if code > LAST_CODE => {
+        let draw = any_draw(random, &types);
+        for (step, behind) in steps(rules, &hand, draw) {
+            let ask = |room: usize| {
+                Masked::asked(room, |out| match step {
+                    Step::Argument(part, index, code) => ours::list_arg(list.list(), part, index, code, out),
+                    Step::ConcreteOnly => list.list().concrete_only(out),
+                })
+            };
+            let told = || format!("the List {:?} with members {:?} and {step:?} of {draw:?}", list.bytes, list.members);
+            let Some(behind) = behind else {
                 tally.check(Masked::refused(7, 0), ask(random.below(LENT + 1)), told);
                 continue;
+            };
+            hand = behind;
+            if needed > 0 && random.once_in(4) {
+                tally.check(Masked::refused(10, needed), ask(random.below(needed)), told);
             }
-            Step::Argument(index, code) => rules.hand_step(&hand, index, code),
-            Step::ConcreteOnly => rules.hand_concrete(hand),
-        };
-        if needed > 0 && random.once_in(4) {
-            tally.check(Masked::refused(10, needed), ask(random.below(needed)), told);
+            let left = ask(needed + random.below(LENT + 1 - needed));
+            let mask = left.lent[..needed].iter().rev().fold(0, |mask, &byte| mask << 8 | u64::from(byte));
+            // Which of two equal rules is left, the crate does not tell; all else is compared.
+            let expected = (Masked::of(mask, listed.len()), rules.hand_listing(&hand));
+            tally.check(expected, (left, chosen(&listed, mask)), told);
+            list.members = left.lent[..needed].to_vec();
+            compare_list_preferred(tally, &list, &listed, &hand);
         }
-        let left = ask(needed + random.below(LENT + 1 - needed));
-        let mask = left.lent[..needed].iter().rev().fold(0, |mask, &byte| mask << 8 | u64::from(byte));
-        // Which of two equal rules is left, the crate does not tell; all else is compared.
-        let expected = (Masked::of(mask, listed.len()), rules.hand_listing(&hand));
-        tally.check(expected, (left, chosen(&listed, mask)), told);
-        list.members = left.lent[..needed].to_vec();
-        compare_list_preferred(tally, &list, &listed, &hand);
     }
 }
 

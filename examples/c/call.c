@@ -163,19 +163,25 @@ static void show_set(const char *question, azwukran_regular_answer set) {
     }
 }
 
-/* A Regular set, what two steps leave of it, and its rules. */
+/* A Regular set, its rules, and what steps leave of it: concrete-only, and an argument's two, one after the other. */
 static void show_regular(uint8_t arity, uint16_t constructors, uint16_t scalars, uint8_t conclusion) {
     azwukran_regular_answer set = {0, arity, constructors, scalars, conclusion, 0};
     show_set("Regular set", set);
     show_rule("  preferred", azwukran_regular_preferred(arity, constructors, scalars, conclusion));
     show_rule("  rule 5", azwukran_regular_rule(arity, constructors, scalars, conclusion, 5));
     show_set("  concrete only", azwukran_regular_concrete_only(arity, constructors, scalars, conclusion));
-    azwukran_regular_answer left = azwukran_regular_arg(arity, constructors, scalars, conclusion, 0, VEC2_F32);
-    show_set("  argument 0 of type 20", left);
-    if (left.number == AZWUKRAN_ACCEPTED) {
-        show_rule("  preferred then",
-                  azwukran_regular_preferred(left.arity, left.constructors, left.scalars, left.conclusion));
+    azwukran_regular_answer left = azwukran_regular_arg_shape(arity, constructors, scalars, conclusion, 0, VEC2_F32);
+    show_set("  argument 0 by the shape of type 20", left);
+    if (left.number != AZWUKRAN_ACCEPTED) {
+        return;
     }
+    left = azwukran_regular_arg_number(left.arity, left.constructors, left.scalars, left.conclusion, 0, VEC2_F32);
+    show_set("  and by its number type", left);
+    if (left.number != AZWUKRAN_ACCEPTED) {
+        return;
+    }
+    show_rule("  preferred then",
+              azwukran_regular_preferred(left.arity, left.constructors, left.scalars, left.conclusion));
 }
 
 /* Prints the bytes lent for a mask behind a question, or the refusal. */
@@ -187,8 +193,8 @@ static void show_lent(const char *question, azwukran_mask_answer answer, const u
     }
 }
 
-/* The rules of a function as a List, and what an argument and the concrete-only step leave of it. A step lends eight bytes
- * for its mask; those behind it keep what they held. */
+/* The rules of a function as a List, and what steps leave of it: an argument's two, one after the other, and concrete-only.
+ * A step lends eight bytes for its mask; those behind it keep what they held. */
 static void show_list(const char *name, uint8_t function) {
     uint8_t rules[MOST_RULES * RULE];
     size_t n = 0;
@@ -205,13 +211,16 @@ static void show_list(const char *name, uint8_t function) {
     /* All of its 32 rules. */
     const uint8_t members[] = {0xff, 0xff, 0xff, 0xff};
     printf("List: %s, %zu bytes of rules\n", name, n);
+    uint8_t shaped[ENOUGH_MASK];
+    memset(shaped, FILL, sizeof shaped);
+    azwukran_mask_answer left = azwukran_list_arg_shape(rules, n, members, sizeof members, 0, VEC2_F32, shaped, 0);
+    show_lent("  argument 0 by the shape of type 20, no room", left, shaped, 0);
+    left = azwukran_list_arg_shape(rules, n, members, sizeof members, 0, VEC2_F32, shaped, sizeof shaped);
+    show_lent("  argument 0 by the shape of type 20", left, shaped, sizeof shaped);
     uint8_t lent[ENOUGH_MASK];
     memset(lent, FILL, sizeof lent);
-    show_lent("  argument 0 of type 20, no room",
-              azwukran_list_arg(rules, n, members, sizeof members, 0, VEC2_F32, lent, 0), lent, 0);
-    azwukran_mask_answer left =
-        azwukran_list_arg(rules, n, members, sizeof members, 0, VEC2_F32, lent, sizeof lent);
-    show_lent("  argument 0 of type 20", left, lent, sizeof lent);
+    left = azwukran_list_arg_number(rules, n, shaped, sizeof shaped, 0, VEC2_F32, lent, sizeof lent);
+    show_lent("  and by its number type", left, lent, sizeof lent);
     azwukran_chosen_answer preferred = azwukran_list_preferred(rules, n, lent, sizeof lent);
     printf("  preferred then: ");
     if (!refused(preferred.number, preferred.place)) {
@@ -229,11 +238,13 @@ int main(void) {
     const uint8_t angle[] = {ABSTRACT_INT};
     const uint8_t mixed[] = {F32, F32, F32};
     const uint8_t unlike[] = {F32, F16};
+    const uint8_t unshaped[] = {F32, VEC2_F32};
     show_call("Clamp", CLAMP, clamped, sizeof clamped, 0);
     show_call("Sin", SIN, angle, sizeof angle, 0);
     show_call("Sin", SIN, angle, sizeof angle, 1);
     show_call("Mix", MIX, mixed, sizeof mixed, 0);
     show_call("Pow", POW, unlike, sizeof unlike, 0);
+    show_call("Pow", POW, unshaped, sizeof unshaped, 0);
     show_rule("rule 4 of Transpose", azwukran_rule(TRANSPOSE, 4));
     show_rule("rule 36 of Transpose", azwukran_rule(TRANSPOSE, 36));
     const uint8_t floats[] = {ABSTRACT_INT, F32, ABSTRACT_FLOAT};

@@ -10,10 +10,12 @@ mod single_calls;
 mod texts;
 mod worksheets;
 
-pub use list_sets::azwukran_list_arg;
+pub use list_sets::azwukran_list_arg_number;
+pub use list_sets::azwukran_list_arg_shape;
 pub use list_sets::azwukran_list_concrete_only;
 pub use list_sets::azwukran_list_preferred;
-pub use regular_sets::azwukran_regular_arg;
+pub use regular_sets::azwukran_regular_arg_number;
+pub use regular_sets::azwukran_regular_arg_shape;
 pub use regular_sets::azwukran_regular_concrete_only;
 pub use regular_sets::azwukran_regular_preferred;
 pub use regular_sets::azwukran_regular_rule;

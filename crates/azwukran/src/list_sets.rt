@@ -2,6 +2,7 @@
 // mask in bytes. A step writes the mask of those that are left into lent bytes, so a caller hands it in again for the next step.
 
 ghost use mathlib.Core.Path.{_≡_};
+ghost use Rattle.rules.specs.declared.rule.Part.the-variants as part;
 ghost use Rattle.rules.specs.declared.rule.Keep.the-variants as keep;
 ghost use Rattle.lists.specs.ChosenPaper.{noChoice};
 ghost use Rattle.lists.specs.List.{noListValues, listArg, listStep, listPreferred};
@@ -16,20 +17,44 @@ use c_sets::RULE_BYTES;
 use c_sets::list_arg;
 use c_sets::list_concrete_only;
 use c_sets::list_preferred;
+use rules::Part;
 
-// The members that an argument of a type leaves, as a mask in front of the lent bytes.
+// The members with the constructor of an argument's type, as a mask in front of the lent bytes.
 #[no_mangle]
-pub extern "C" fn azwukran_list_arg(
+pub extern "C" fn azwukran_list_arg_shape(
     rules: &[u8],
     members: &[u8],
     index: usize,
     code: u8,
     out: &mut [u8],
 ) -> MaskForC
-    ensures answer { λ r. ⌜ r ≡ maskForC (inRoom (rulesHanded (now (rules .entry))) (now (out .entry)) (membersLeft (ofList (now (rules .entry)) (now (members .entry)) (listArg index code) noListValues))) ⌝ }
-    ensures lent { λ _. ⌜ now (out .exit) ≡ lentBy (rulesHanded (now (rules .entry))) (membersLeft (ofList (now (rules .entry)) (now (members .entry)) (listArg index code) noListValues)) (now (out .entry)) ⌝ }
+    ensures answer { λ r. ⌜ r ≡ maskForC (inRoom (rulesHanded (now (rules .entry))) (now (out .entry)) (membersLeft (ofList (now (rules .entry)) (now (members .entry)) (listArg part.Shape index code) noListValues))) ⌝ }
+    ensures lent { λ _. ⌜ now (out .exit) ≡ lentBy (rulesHanded (now (rules .entry))) (membersLeft (ofList (now (rules .entry)) (now (members .entry)) (listArg part.Shape index code) noListValues)) (now (out .entry)) ⌝ }
 {
-    lend_members(list_arg(rules, members, index, code), handed(rules), out)
+    lend_members(
+        list_arg(rules, members, Part::Shape, index, code),
+        handed(rules),
+        out,
+    )
+}
+
+// The members with a scalar that an argument's type converts to, as a mask in front of the lent bytes.
+#[no_mangle]
+pub extern "C" fn azwukran_list_arg_number(
+    rules: &[u8],
+    members: &[u8],
+    index: usize,
+    code: u8,
+    out: &mut [u8],
+) -> MaskForC
+    ensures answer { λ r. ⌜ r ≡ maskForC (inRoom (rulesHanded (now (rules .entry))) (now (out .entry)) (membersLeft (ofList (now (rules .entry)) (now (members .entry)) (listArg part.Number index code) noListValues))) ⌝ }
+    ensures lent { λ _. ⌜ now (out .exit) ≡ lentBy (rulesHanded (now (rules .entry))) (membersLeft (ofList (now (rules .entry)) (now (members .entry)) (listArg part.Number index code) noListValues)) (now (out .entry)) ⌝ }
+{
+    lend_members(
+        list_arg(rules, members, Part::Number, index, code),
+        handed(rules),
+        out,
+    )
 }
 
 // The members without an abstract argument, as a mask in front of the lent bytes.

@@ -3,6 +3,7 @@
 
 ghost use mathlib.Core.Path.{_≡_};
 ghost use Rattle.rules.specs.RulePaper.{noRule};
+ghost use Rattle.rules.specs.declared.rule.Part.the-variants as part;
 ghost use Rattle.regular.specs.Regular.{regularArg, regularConcrete, regularPreferred};
 ghost use Rattle.regular.specs.SetPaper.{noSet};
 ghost use Rattle.c_sets.specs.Sets.{ofRegular, regularRuleAt};
@@ -15,12 +16,13 @@ use c_sets::regular_arg;
 use c_sets::regular_concrete_only;
 use c_sets::regular_preferred;
 use c_sets::regular_rule;
+use rules::Part;
 use scalars::ScalarSet;
 use types::ConstructorSet;
 
-// The set that an argument of a type leaves.
+// The set with the constructor of an argument's type alone.
 #[no_mangle]
-pub extern "C" fn azwukran_regular_arg(
+pub extern "C" fn azwukran_regular_arg_shape(
     arity: u8,
     constructors: u16,
     scalars: u16,
@@ -28,13 +30,37 @@ pub extern "C" fn azwukran_regular_arg(
     index: usize,
     code: u8,
 ) -> RegularForC
-    ensures { λ r. ⌜ r ≡ regularForC (ofRegular arity constructors scalars conclusion (regularArg index code) noSet) ⌝ }
+    ensures { λ r. ⌜ r ≡ regularForC (ofRegular arity constructors scalars conclusion (regularArg part.Shape index code) noSet) ⌝ }
 {
     regular_for_c(regular_arg(
         arity,
         ConstructorSet(constructors),
         ScalarSet(scalars),
         conclusion,
+        Part::Shape,
+        index,
+        code,
+    ))
+}
+
+// The set with the scalars alone that an argument's type converts to.
+#[no_mangle]
+pub extern "C" fn azwukran_regular_arg_number(
+    arity: u8,
+    constructors: u16,
+    scalars: u16,
+    conclusion: u8,
+    index: usize,
+    code: u8,
+) -> RegularForC
+    ensures { λ r. ⌜ r ≡ regularForC (ofRegular arity constructors scalars conclusion (regularArg part.Number index code) noSet) ⌝ }
+{
+    regular_for_c(regular_arg(
+        arity,
+        ConstructorSet(constructors),
+        ScalarSet(scalars),
+        conclusion,
+        Part::Number,
         index,
         code,
     ))

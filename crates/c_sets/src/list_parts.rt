@@ -15,6 +15,7 @@ use lists::ChosenAnswer;
 use lists::List;
 use lists::ListAnswer;
 use lists::MOST_RULES;
+use rules::Part;
 use rules::Rule;
 use scalars::Refusal;
 use scalars::Verdict;
@@ -22,16 +23,16 @@ use scalars::Verdict;
 // The bytes of a rule.
 pub const RULE_BYTES: usize = 6;
 
-// The members that take an argument of a type. Refused as `List::arg` is.
-pub fn list_arg(rules: &[u8], members: &[u8], index: usize, code: u8) -> ListAnswer
-    ensures { λ r. ⌜ listPaper r ≡ ofList (now (rules .entry)) (now (members .entry)) (listArg index code) noListValues ⌝ }
+// The members whose type at an argument fits a part of this one. Refused as `List::arg` is.
+pub fn list_arg(rules: &[u8], members: &[u8], part: Part, index: usize, code: u8) -> ListAnswer
+    ensures { λ r. ⌜ listPaper r ≡ ofList (now (rules .entry)) (now (members .entry)) (listArg part index code) noListValues ⌝ }
 {
     let made = list_in(rules, members);
     let verdict = made.answer;
     let list = made.list;
     match verdict {
         Verdict::Refused(why) => no_list(why),
-        Verdict::Accepted => list.arg(index, code),
+        Verdict::Accepted => list.arg(part, index, code),
     }
 }
 

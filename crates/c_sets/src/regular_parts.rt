@@ -9,6 +9,7 @@ ghost use Rattle.c_sets.specs.Sets.{ofRegular, regularRuleAt};
 use regular::ConclusionRule;
 use regular::Regular;
 use regular::RegularAnswer;
+use rules::Part;
 use rules::RuleAnswer;
 use scalars::CountAnswer;
 use scalars::Refusal;
@@ -38,21 +39,22 @@ pub fn regular_from(
     }
 }
 
-// The set that an argument of a type leaves. Refused as `Regular::arg` is.
+// The set that a part of an argument's type leaves. Refused as `Regular::arg` is.
 pub fn regular_arg(
     arity: u8,
     constructors: ConstructorSet,
     scalars: ScalarSet,
     conclusion: u8,
+    part: Part,
     index: usize,
     code: u8,
 ) -> RegularAnswer
-    ensures { λ r. ⌜ regularPaper r ≡ ofRegular arity (constructors .0) (scalars .0) conclusion (regularArg index code) noSet ⌝ }
+    ensures { λ r. ⌜ regularPaper r ≡ ofRegular arity (constructors .0) (scalars .0) conclusion (regularArg part index code) noSet ⌝ }
 {
     if CONCLUSION_COUNT <= conclusion {
         return RegularAnswer::Refused(Refusal::Unknown(0));
     }
-    regular_in(arity, constructors, scalars, conclusion).arg(index, code)
+    regular_in(arity, constructors, scalars, conclusion).arg(part, index, code)
 }
 
 // The set without its abstract scalars. Refused as `Regular::concrete_only` is.

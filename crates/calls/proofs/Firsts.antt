@@ -11,14 +11,13 @@ use Rattle.scalars.specs.Mask.{both, consIf}
 use Rattle.rules.specs.Signature.{Signature}
 use Rattle.lists.specs.Entry.{Entry, number, keep}
 use Rattle.calls.specs.Choice.{chosen, first}
-use Rattle.scalars.proofs.Filters.{filter-both}
+use Rattle.scalars.proofs.Filters.{filter-true, filter-both}
 
 pub keep-keep : (p q : Signature → Bool) (s : List Entry) → keep q (keep p s) ≡ keep (λ (r : Signature). both (p r) (q r)) s
 keep-keep p q s = filter-both (λ (x : Entry). q (x .rule)) (λ (x : Entry). p (x .rule)) s
 
 pub keep-every : (s : List Entry) → keep (λ (r : Signature). true) s ≡ s
-keep-every [] = refl
-keep-every (x ∷ xs) = ap (λ (l : List Entry). x ∷ l) (keep-every xs)
+keep-every s = filter-true s
 
 -- the rule at an index passes a test, and none before it does
 pub record IsFirst (q : Signature → Bool) (rules : List Signature) (i : ℕ) (r : Signature) : Type 0 where

@@ -1,12 +1,13 @@
--- A call of a List, turn by turn: each operand takes members from its mask, and what is left of it gives the choice and the survivors.
+-- A call of a List, step by step: each operand takes members from its mask by its shape and by its number, and what is left of it gives
+-- the choice and the survivors.
 -- Assumes nothing.
 use mathlib.Core.Path.{_≡_, refl, sym, ap, _∙_, subst, subst⁻¹}
 use mathlib.Core.Bool.{Bool, true, false}
 use mathlib.Core.List as L
 use mathlib.Core.List.{[], _∷_}
-use Prim.Native.Nat.{ℕ, _+_, _^_, _≤_, _<_, zero-le}
+use Prim.Native.Nat.{ℕ, _^_, _≤_, _<_, zero-le}
 use native.Mathlib.Omega.{arith}
-use lib.ListN.{length, getD, drop}
+use lib.ListN.{length, getD}
 use Rattle.scalars.specs.Mask.{select, sift, bits, headOr}
 use Rattle.scalars.specs.Paper.{accepted, refusal, values, beside, verdictPaper}
 use Rattle.scalars.specs.declared.answer.Verdict.{Verdict}
@@ -16,6 +17,8 @@ use Rattle.rules.specs.RulePaper.{ruleValues}
 use Rattle.rules.specs.declared.rule.Rule.{Rule}
 use Rattle.rules.specs.Signature.{Signature}
 use Rattle.rules.specs.Verdict.{longest, countOf}
+use Rattle.rules.specs.declared.rule.Part.{Part}
+use Rattle.rules.specs.declared.rule.Part.the-variants.{Shape, Number}
 use Rattle.rules.specs.declared.rule.Keep.{Keep}
 use Rattle.rules.specs.declared.rule.Keep.the-variants.{Argument, Concrete}
 use Rattle.lists.specs.Entry.{Entry, number, keep}
@@ -24,7 +27,7 @@ use Rattle.lists.specs.private.Tested.{Valid}
 use Rattle.lists.specs.ChosenPaper.{noChoice, listValues}
 use Rattle.lists.specs.declared.list.List.{List}
 use Rattle.lists.specs.declared.walks.RuleSet.{RuleSet}
-use Rattle.calls.specs.Choice.{Narrowed, left, emptied, narrow, wrongCount, first, concreteStep, afterOperands, resolve}
+use Rattle.calls.specs.Choice.{Narrowed, left, emptied, narrow, first, concreteStep, afterOperands, resolve}
 use Rattle.calls.specs.Call.{answered, membersOf, survivorsAfter, survivorsOf}
 use Rattle.calls.specs.private.CallSets.{Full}
 use Rattle.calls.specs.private.Steps.{Within, choiceBy, survivorsBy, Bounded, Stepped, Placed}
@@ -35,7 +38,7 @@ use Rattle.lists.proofs.Lists.{valid-length, valid-within, valid-word, preferre
 use Rattle.lists.proofs.Entries.{select-keep}
 use Rattle.lists.proofs.ChosenPapers.{list-values-one}
 use Rattle.calls.proofs.Narrowing.{Some}
-use Rattle.calls.proofs.Resolving.{narrow-out, narrow-on, narrow-end, count-wrong, count-right}
+use Rattle.calls.proofs.Resolving.{nextPart, nextAt, toCome, step-out, step-on, narrow-end, count-wrong, count-right}
 use Rattle.calls.proofs.ListResolving.{full-entries, full-listing, picks-some, picked-members}
 
 -- ---- the count
@@ -65,11 +68,11 @@ module _ (l : List) (full : Full l) where
 
 -- ---- the steps
 
--- i operands are done: these rules are left, and the steps to come are the rest of all steps
-abbrev pub Reached : List → L.List ℕ → ℕ → ℕ → Type 0
-Reached list ts m i =
+-- the steps before the one by this part of the operand i are done: these rules are left, and the steps to come are the rest of all steps
+abbrev pub Reached : List → L.List ℕ → ℕ → Part → ℕ → Type 0
+Reached list ts m part i =
     (i ≤ length ts) × (m < 2 ^ length (signatures list))
-    × (narrow (drop i ts) i (select (number 0 (signatures list)) m) ≡ narrow ts 0 (number 0 (signatures list)))
+    × (toCome part ts i (select (number 0 (signatures list)) m) ≡ narrow ts 0 (number 0 (signatures list)))
 
 module _ (list : List) (full : Full list) (ts : L.List ℕ) (switch : Bool) where
   abbrev rules : L.List Signature
@@ -83,7 +86,7 @@ module _ (list : List) (full : Full list) (ts : L.List ℕ) (switch : Bool) wher
   unfolding resolve survivorsOf
   steps-wrong h = record { choice = sym (count-wrong rules ts _ _ h); survivors = sym (count-wrong rules ts _ _ h); bounded = tt }
 
-  pub reached-start : Reached list ts (list .members) 0
+  pub reached-start : Reached list ts (list .members) Shape 0
   unfolding entries
   reached-start = (zero-le, valid-within list (full .valid), ap (narrow ts 0) (full-entries list full))
 
@@ -98,34 +101,41 @@ module _ (list : List) (full : Full list) (ts : L.List ℕ) (switch : Bool) wher
       bounded = b;
     }
 
-    module _ (m i : ℕ) (reached : Reached list ts m i) where
-      -- the rules that pass a test
-      abbrev passing : Keep → ℕ
-      passing k = sift (passes k) rules m
+    -- the rules that pass a test
+    abbrev passing : ℕ → Keep → ℕ
+    passing m k = sift (passes k) rules m
 
-      passing-entries : (k : Keep) → select (number 0 rules) (passing k) ≡ keep (passes k) (select (number 0 rules) m)
-      passing-entries k = select-keep (passes k) 0 rules m
+    passing-entries : (m : ℕ) (k : Keep) → select (number 0 rules) (passing m k) ≡ keep (passes k) (select (number 0 rules) m)
+    passing-entries m k = select-keep (passes k) 0 rules m
 
-      passing-within : (k : Keep) → passing k < 2 ^ length rules
-      passing-within k = sift-lt (passes k) rules m refl
+    passing-within : (m : ℕ) (k : Keep) → passing m k < 2 ^ length rules
+    passing-within m k = sift-lt (passes k) rules m refl
 
-      -- the operand leaves none
-      pub reached-out : i < length ts → passing (Argument i (getD ts i 0)) ≡ 0 → Stepped switch list ts (NoneAfter i)
-      reached-out h e =
-          let k = Argument i (getD ts i 0) in
-          let none = sym (passing-entries k) ∙ ap (select (number 0 rules)) e ∙ select-none (number 0 rules) in
-          steps-right (NoneAfter i) (emptied i) (sym (narrow-out ts i (select (number 0 rules) m) h none) ∙ reached .2) refl refl h
+    module _ (part : Part) (m i : ℕ) (reached : Reached list ts m part i) (here : i < length ts) where
+      abbrev asked : Keep
+      asked = Argument part i (getD ts i 0)
+
+      -- the step leaves none
+      pub reached-out : passing m asked ≡ 0 → Stepped switch list ts (NoneAfter part i)
+      reached-out e =
+          let none = sym (passing-entries m asked) ∙ ap (select (number 0 rules)) e ∙ select-none (number 0 rules) in
+          steps-right (NoneAfter part i) (emptied part i) (sym (step-out ts i here part (select (number 0 rules) m) none) ∙ reached .2) refl refl here
 
       -- it leaves some
-      pub reached-on : i < length ts → (passing (Argument i (getD ts i 0)) ≡ 0 → ⊥) → Reached list ts (passing (Argument i (getD ts i 0))) (i + 1)
-      reached-on h e =
-          let k = Argument i (getD ts i 0) in
-          let some = subst Some (passing-entries k) (picks-some rules (passing k) (passing-within k) e) in (
-            omega arith,
-            passing-within k,
-            ap (narrow (drop (i + 1) ts) (i + 1)) (passing-entries k) ∙ sym (narrow-on ts i (select (number 0 rules) m) h some) ∙ reached .2,
+      pub reached-on : (passing m asked ≡ 0 → ⊥) → Reached list ts (passing m asked) (nextPart part) (nextAt part i)
+      reached-on e =
+          let some = subst Some (passing-entries m asked) (picks-some rules (passing m asked) (passing-within m asked) e) in (
+            there part,
+            passing-within m asked,
+            ap (toCome (nextPart part) ts (nextAt part i)) (passing-entries m asked)
+                ∙ sym (step-on ts i here part (select (number 0 rules) m) some) ∙ reached .2,
           )
+        where
+          there : (w : Part) → nextAt w i ≤ length ts
+          there Shape = omega arith
+          there Number = omega arith
 
+    module _ (m i : ℕ) (reached : Reached list ts m Shape i) where
       module _ (done : length ts ≤ i) (set : RuleSet) where
         -- what is left at the end, where the switch leaves these of it
         left-by : set .0 < 2 ^ length rules → select (number 0 rules) (set .0) ≡ concreteStep switch (select (number 0 rules) m) → Stepped switch list ts (Left set)
@@ -138,10 +148,10 @@ module _ (list : List) (full : Full list) (ts : L.List ℕ) (switch : Bool) wher
             left-by (subst⁻¹ (λ (n : ℕ). n < 2 ^ length rules) e (reached .1))
             (ap (select (number 0 rules)) e ∙ ap (λ (b : Bool). concreteStep b (select (number 0 rules) m)) (sym off))
 
-        pub reached-concrete : set .0 ≡ passing Concrete → switch ≡ true → Stepped switch list ts (Left set)
+        pub reached-concrete : set .0 ≡ passing m Concrete → switch ≡ true → Stepped switch list ts (Left set)
         reached-concrete e on =
-            left-by (subst⁻¹ (λ (n : ℕ). n < 2 ^ length rules) e (passing-within Concrete))
-            (ap (select (number 0 rules)) e ∙ passing-entries Concrete ∙ ap (λ (b : Bool). concreteStep b (select (number 0 rules) m)) (sym on))
+            left-by (subst⁻¹ (λ (n : ℕ). n < 2 ^ length rules) e (passing-within m Concrete))
+            (ap (select (number 0 rules)) e ∙ passing-entries m Concrete ∙ ap (λ (b : Bool). concreteStep b (select (number 0 rules) m)) (sym on))
 
 -- ---- the first of what is left
 
@@ -178,7 +188,7 @@ module _ (l : List) (set : RuleSet) (w : Within l set) where
 -- an operand's place fits a machine word, as the number of operands does
 pub placed-of : (l : List) (ts : L.List ℕ) (s : Steps) → Bounded l ts s → length ts < 2 ^ 64 → Placed s
 placed-of l ts WrongCount b h = tt
-placed-of l ts (NoneAfter k) b h = omega arith
+placed-of l ts (NoneAfter part k) b h = omega arith
 placed-of l ts (Left m) b h = tt
 
 -- ---- the List in an answer that is accepted

@@ -1,13 +1,16 @@
--- A call of a Regular set, turn by turn: its arity is the number of operands, each operand narrows the masks, and the first rule that
--- is left is the chosen one. Assumes nothing.
+-- A call of a Regular set, step by step: its arity is the number of operands, each operand narrows the masks by its shape and by its
+-- number, and the first rule that is left is the chosen one. Assumes nothing.
 use mathlib.Core.Path.{_≡_, refl, sym, ap, _∙_}
 use mathlib.Core.Bool.{Bool, true, false}
 use mathlib.Core.List.{List, [], map}
-use Prim.Native.Nat.{ℕ, zero, suc, _+_, _≤_, _<_, zero-le}
+use Prim.Native.Nat.{ℕ, zero, suc, _≤_, _<_, zero-le}
 use native.Mathlib.Omega.{arith}
-use lib.ListN.{length, getD, drop}
+use lib.ListN.{length, getD}
 use Rattle.scalars.specs.Mask.{bits}
-use Rattle.lists.specs.Entry.{Entry, number}
+use Rattle.rules.specs.Signature.{fits}
+use Rattle.rules.specs.declared.rule.Part.{Part}
+use Rattle.rules.specs.declared.rule.Part.the-variants.{Shape, Number}
+use Rattle.lists.specs.Entry.{Entry, number, keep}
 use Rattle.calls.specs.Choice.{Narrowed, left, emptied, narrow, wrongCount, afterOperands, resolve}
 use Rattle.rules.specs.Verdict.{longest}
 use Rattle.regular.specs.Regular.{pairs, codesOf, signatureFor, regularRules, emptySet?, narrowed, concreteSet}
@@ -20,13 +23,14 @@ use Rattle.regular.specs.declared.regular.Regular.{Regular}
 use Rattle.scalars.proofs.Bits.{bits-none}
 use Rattle.regular.proofs.Regulars.{codes-first, longest-arity, lowestCode}
 use Rattle.regular.proofs.RegularSteps.{narrowed-known, concrete-known}
-use Rattle.calls.proofs.Resolving.{narrow-out, narrow-on, narrow-end, count-wrong, count-right}
+use Rattle.calls.proofs.Resolving.{nextPart, nextAt, toCome, step-out, step-on, narrow-end, count-wrong, count-right}
 use Rattle.calls.proofs.RegularResolving.{Holds, holds-all, holds-argument, holds-switched, holds-preferred, holds-none, holds-some}
 
--- i operands are done: the masks hold what is left, and the steps to come are the rest of all steps
-abbrev pub Reached : Regular → List ℕ → Regular → ℕ → Type 0
-Reached set ts rest i =
-    (i ≤ length ts) × Known rest × (s : List Entry) × Holds set rest s × (narrow (drop i ts) i s ≡ narrow ts 0 (number 0 (regularRules set)))
+-- the steps before the one by this part of the operand i are done: the masks hold what is left, and the steps to come are the rest of all
+-- steps
+abbrev pub Reached : Regular → List ℕ → Regular → Part → ℕ → Type 0
+Reached set ts rest part i =
+    (i ≤ length ts) × Known rest × (s : List Entry) × Holds set rest s × (toCome part ts i s ≡ narrow ts 0 (number 0 (regularRules set)))
 
 module _ (set : Regular) (callable : Callable set) where
   -- without an argument there is no rule
@@ -58,7 +62,7 @@ module _ (set : Regular) (callable : Callable set) (ts : List ℕ) where
   unfolding resolve
   regular-wrong switch h = sym (ap answered (count-wrong (regularRules set) ts wrongCount _ (λ e. h (e ∙ rules-longest set callable))))
 
-  pub reached-start : Reached set ts set 0
+  pub reached-start : Reached set ts set Shape 0
   reached-start = (zero-le, callable .known, number 0 (regularRules set), holds-all set, refl)
 
   module _ (counted : length ts ≡ set .arity) where
@@ -70,24 +74,31 @@ module _ (set : Regular) (callable : Callable set) (ts : List ℕ) where
         ap (λ (x : Narrowed). answered (afterOperands switch x)) (sym e)
         ∙ sym (ap answered (count-right (regularRules set) ts wrongCount _ (counted ∙ sym (rules-longest set callable))))
 
-    module _ (rest : Regular) (i : ℕ) (reached : Reached set ts rest i) where
-      -- the operand leaves none
-      pub reached-out : (switch : Bool) → i < length ts → emptySet? (narrowed (getD ts i 0) rest) ≡ true
-          → answered (afterOperands switch (emptied i)) ≡ answered (resolve switch (regularRules set) ts)
-      reached-out switch h e =
-          let b : i < set .arity = omega arith in
-          regular-right switch (emptied i)
-          (sym (reached .4)
-          ∙ narrow-out ts i (reached .2) h (holds-none set (narrowed (getD ts i 0) rest) _ (holds-argument i (getD ts i 0) set rest (reached .2) b (reached .3)) e))
+    module _ (part : Part) (rest : Regular) (i : ℕ) (reached : Reached set ts rest part i) (here : i < length ts) where
+      -- what the step leaves
+      abbrev rest′ : Regular
+      rest′ = narrowed part (getD ts i 0) rest
 
-      -- it leaves some
-      pub reached-on : i < length ts → emptySet? (narrowed (getD ts i 0) rest) ≡ false → Reached set ts (narrowed (getD ts i 0) rest) (i + 1)
-      reached-on h e =
-          let b : i < set .arity = omega arith in
-          let k = narrowed-known (getD ts i 0) rest (reached .1) in
-          let n = holds-argument i (getD ts i 0) set rest (reached .2) b (reached .3) in
-          (omega arith, k, _, n, sym (narrow-on ts i (reached .2) h (holds-some set (narrowed (getD ts i 0) rest) _ n k e)) ∙ reached .4)
+      holds′ : Holds set rest′ (keep (fits part i (getD ts i 0)) (reached .2))
+      holds′ = let b : i < set .arity = omega arith in holds-argument part i (getD ts i 0) set rest (reached .2) b (reached .3)
 
+      -- that is none
+      pub reached-out : (switch : Bool) → emptySet? rest′ ≡ true
+          → answered (afterOperands switch (emptied part i)) ≡ answered (resolve switch (regularRules set) ts)
+      reached-out switch e =
+          regular-right switch (emptied part i) (sym (reached .4) ∙ step-out ts i here part (reached .2) (holds-none set rest′ _ holds′ e))
+
+      -- it is some
+      pub reached-on : emptySet? rest′ ≡ false → Reached set ts rest′ (nextPart part) (nextAt part i)
+      reached-on e =
+          let k = narrowed-known part (getD ts i 0) rest (reached .1) in
+          (there part, k, _, holds′, sym (step-on ts i here part (reached .2) (holds-some set rest′ _ holds′ k e)) ∙ reached .4)
+        where
+          there : (w : Part) → nextAt w i ≤ length ts
+          there Shape = omega arith
+          there Number = omega arith
+
+    module _ (rest : Regular) (i : ℕ) (reached : Reached set ts rest Shape i) where
       module _ (done : length ts ≤ i) where
         end : narrow ts 0 (number 0 (regularRules set)) ≡ left (reached .2)
         end = sym (reached .4) ∙ narrow-end ts i (reached .2) done

@@ -13,7 +13,8 @@ use Rattle.scalars.specs.Mask.{choose, both, consIf, filter, every, bits}
 use Rattle.scalars.specs.Domain.{scalars, abstract?}
 use Rattle.scalars.specs.Scalar.{firstScalar, mostGeneral}
 use Rattle.types.specs.Domain.{constructors}
-use Rattle.rules.specs.Signature.{Signature, takes, concrete}
+use Rattle.rules.specs.Signature.{Signature, fitsBy, fits, concrete}
+use Rattle.rules.specs.declared.rule.Part.{Part}
 use Rattle.lists.specs.Entry.{Entry, number, keep}
 use Rattle.calls.specs.Choice.{chosen, first}
 use Rattle.rules.specs.Rule.{ruleOf}
@@ -27,12 +28,12 @@ use Rattle.rules.specs.RulePaper.{ruleValues}
 use Rattle.lists.specs.ChosenPaper.{noChoice}
 use Rattle.regular.specs.declared.regular.Regular.{Regular}
 use Rattle.scalars.proofs.Bits.{bits-next, bits-none}
-use Rattle.scalars.proofs.Filters.{both-left, every-filter, filter-both, filter-map, filter-all}
+use Rattle.scalars.proofs.Filters.{both-left, every-filter, filter-true, filter-both, filter-map}
 use Rattle.calls.proofs.Firsts.{keep-keep, keep-every}
 use Rattle.calls.proofs.Narrowing.{Some}
 use Rattle.calls.proofs.Positions.{rank-first, pairs-first}
-use Rattle.regular.proofs.RegularCodes.{shapes, numbers, reaches-pair, concrete-pair, narrowed-constructors, narrowed-scalars, codes-filter, every-select, bits-meet}
-use Rattle.regular.proofs.RegularSteps.{takes-each, concrete-each}
+use Rattle.regular.proofs.RegularCodes.{shapes, numbers, fits-pair, concrete-pair, narrowed-constructors, narrowed-scalars, codes-filter, every-select, bits-meet}
+use Rattle.regular.proofs.RegularSteps.{passes-each, concrete-each}
 use Rattle.regular.proofs.Regulars.{some-first, pairs-none, codes-none}
 
 -- the entries left are those that pass a test which asks the constructor and the scalar apart, and the masks hold what passes either
@@ -45,10 +46,6 @@ pub record Holds (set left : Regular) (s : List Entry) : Type 0 where
   pub constructors : bits 13 (left .constructors .0) ≡ filter shape (bits 13 (set .constructors .0))
   pub scalars : bits 12 (left .scalars .0) ≡ filter scalar (bits 12 (set .scalars .0))
 
-every-true : (ks : List ℕ) → every (λ k. true) ks ≡ true
-every-true [] = refl
-every-true (k ∷ ks) = every-true ks
-
 -- ---- the whole set, and each step
 
 pub holds-all : (set : Regular) → Holds set set (number 0 (regularRules set))
@@ -58,8 +55,8 @@ holds-all set = record {
   scalar = λ n. true;
   splits = λ k n h l. refl;
   entries = sym (keep-every (number 0 (regularRules set)));
-  constructors = sym (filter-all (λ k. true) (bits 13 (set .constructors .0)) (every-true (bits 13 (set .constructors .0))));
-  scalars = sym (filter-all (λ n. true) (bits 12 (set .scalars .0)) (every-true (bits 12 (set .scalars .0))));
+  constructors = sym (filter-true (bits 13 (set .constructors .0)));
+  scalars = sym (filter-true (bits 12 (set .scalars .0)));
 }
 
 -- two tests, each in two parts
@@ -69,17 +66,21 @@ cross true true false d = refl
 cross true false false d = refl
 cross false b c d = refl
 
-pub holds-argument : (i t : ℕ) (set left : Regular) (s : List Entry) → i < set .arity → Holds set left s → Holds set (narrowed t left) (keep (takes i t) s)
-holds-argument i t set left s below h = record {
-  test = λ r. both (h .test r) (takes i t r);
-  shape = λ k. both (h .shape k) (shapes t k);
-  scalar = λ n. both (h .scalar n) (numbers t n);
+pub holds-argument : (part : Part) (i t : ℕ) (set left : Regular) (s : List Entry) → i < set .arity → Holds set left s
+    → Holds set (narrowed part t left) (keep (fits part i t) s)
+holds-argument part i t set left s below h = record {
+  test = λ r. both (h .test r) (fits part i t r);
+  shape = λ k. both (h .shape k) (shapes part t k);
+  scalar = λ n. both (h .scalar n) (numbers part t n);
   splits = λ k n p q.
-      ap₂ both (h .splits k n p q) (takes-each (set .arity) i t (k * 12 + n) below ∙ reaches-pair t k n p q)
-      ∙ cross (h .shape k) (h .scalar n) (shapes t k) (numbers t n);
-  entries = ap (keep (takes i t)) (h .entries) ∙ keep-keep (h .test) (takes i t) (number 0 (regularRules set));
-  constructors = narrowed-constructors t left ∙ ap (filter (shapes t)) (h .constructors) ∙ filter-both (shapes t) (h .shape) (bits 13 (set .constructors .0));
-  scalars = narrowed-scalars t left ∙ ap (filter (numbers t)) (h .scalars) ∙ filter-both (numbers t) (h .scalar) (bits 12 (set .scalars .0));
+      ap₂ both (h .splits k n p q) (passes-each (fitsBy part t) (set .arity) i (k * 12 + n) below ∙ fits-pair part t k n p q)
+      ∙ cross (h .shape k) (h .scalar n) (shapes part t k) (numbers part t n);
+  entries = ap (keep (fits part i t)) (h .entries) ∙ keep-keep (h .test) (fits part i t) (number 0 (regularRules set));
+  constructors =
+      narrowed-constructors part t left ∙ ap (filter (shapes part t)) (h .constructors)
+      ∙ filter-both (shapes part t) (h .shape) (bits 13 (set .constructors .0));
+  scalars =
+      narrowed-scalars part t left ∙ ap (filter (numbers part t)) (h .scalars) ∙ filter-both (numbers part t) (h .scalar) (bits 12 (set .scalars .0));
 }
 
 holds-concrete : (set left : Regular) (s : List Entry) → 1 ≤ set .arity → Holds set left s → Holds set (concreteSet left) (keep concrete s)
@@ -93,7 +94,7 @@ holds-concrete set left s some h = record {
       ∙ cross (h .shape k) (h .scalar n) true (not (abstract? n));
   entries = ap (keep concrete) (h .entries) ∙ keep-keep (h .test) concrete (number 0 (regularRules set));
   constructors =
-      sym (filter-all (λ k. true) (bits 13 (left .constructors .0)) (every-true (bits 13 (left .constructors .0))))
+      sym (filter-true (bits 13 (left .constructors .0)))
       ∙ ap (filter (λ k. true)) (h .constructors) ∙ filter-both (λ k. true) (h .shape) (bits 13 (set .constructors .0));
   scalars =
       bits-meet 12 (λ n. not (abstract? n)) (left .scalars .0)

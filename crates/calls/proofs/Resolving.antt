@@ -1,5 +1,5 @@
--- The steps of a call, one at a time: the number of operands is the longest rule's, or is wrong; an operand that empties the set ends
--- the steps, and any other leaves the entries that pass. Assumes nothing.
+-- The steps of a call, one at a time: the number of operands is the longest rule's, or is wrong; a step that empties the set ends the
+-- steps, and any other leaves the entries that pass. Assumes nothing.
 use mathlib.Core.Path.{_≡_, refl, sym, ap, _∙_}
 use mathlib.Core.Bool.{Bool, true, false}
 use mathlib.Core.List as L
@@ -11,36 +11,57 @@ use lib.Dec.{ltb}
 use lib.ListN.{length, getD, drop, drop-of-length-le}
 use borrow.Author.Tests.{lt-ltb, le-ltb, ltb-false}
 use Rattle.scalars.specs.Mask.{choose, either}
-use Rattle.rules.specs.Signature.{Signature, takes}
+use Rattle.rules.specs.Signature.{Signature, fits}
+use Rattle.rules.specs.declared.rule.Part.{Part}
+use Rattle.rules.specs.declared.rule.Part.the-variants.{Shape, Number}
 use Rattle.lists.specs.Entry.{Entry, keep}
-use Rattle.calls.specs.Choice.{left, emptied, unlessEmpty, narrow, chosen, first}
+use Rattle.calls.specs.Choice.{Narrowed, left, emptied, unlessEmpty, partStep, narrow, chosen, first}
 use Rattle.rules.specs.Verdict.{longest}
 use Rattle.types.proofs.Codes.{from-here}
 use Rattle.calls.proofs.Narrowing.{Some}
 
--- ---- one operand further
+-- ---- one step further
 
-module _ (ts : L.List ℕ) (i : ℕ) (s : L.List Entry) where
-  there : i < length ts → narrow (drop i ts) i s ≡ unlessEmpty i (λ (s′ : L.List Entry). narrow (drop (i + 1) ts) (suc i) s′) (keep (takes i (getD ts i 0)) s)
+-- the step behind one by this part of the operand i: the same operand's number, or the next operand's shape
+abbrev pub nextPart : Part → Part
+nextPart Shape = Number
+nextPart Number = Shape
+
+abbrev pub nextAt : Part → ℕ → ℕ
+nextAt Shape i = i
+nextAt Number i = i + 1
+
+-- the steps to come, from the one by this part of the operand i on
+abbrev pub toCome : Part → L.List ℕ → ℕ → L.List Entry → Narrowed
+toCome Shape ts i s = narrow (drop i ts) i s
+toCome Number ts i s = partStep Number i (getD ts i 0) (λ (s′ : L.List Entry). narrow (drop (i + 1) ts) (suc i) s′) s
+
+module _ (ts : L.List ℕ) (i : ℕ) (here : i < length ts) where
+  there : (part : Part) (s : L.List Entry)
+      → toCome part ts i s ≡ partStep part i (getD ts i 0) (λ (s′ : L.List Entry). toCome (nextPart part) ts (nextAt part i) s′) s
   unfolding narrow
-  there h = ap (λ (l : L.List ℕ). narrow l i s) (from-here ts i h)
+  there Shape s = ap (λ (l : L.List ℕ). narrow l i s) (from-here ts i here)
+  there Number s = ap (λ (k : ℕ). partStep Number i (getD ts i 0) (λ (s′ : L.List Entry). narrow (drop (i + 1) ts) k s′) s) (sym (add-one i))
 
-  -- the operand leaves none
-  pub narrow-out : i < length ts → keep (takes i (getD ts i 0)) s ≡ [] → narrow (drop i ts) i s ≡ emptied i
-  narrow-out h e = there h ∙ ap (unlessEmpty i (λ (s′ : L.List Entry). narrow (drop (i + 1) ts) (suc i) s′)) e
+  -- the step leaves none
+  pub step-out : (part : Part) (s : L.List Entry) → keep (fits part i (getD ts i 0)) s ≡ [] → toCome part ts i s ≡ emptied part i
+  step-out part s e =
+      there part s ∙ ap (unlessEmpty (emptied part i) (λ (s′ : L.List Entry). toCome (nextPart part) ts (nextAt part i) s′)) e
 
   -- it leaves some
-  pub narrow-on : i < length ts → Some (keep (takes i (getD ts i 0)) s) → narrow (drop i ts) i s ≡ narrow (drop (i + 1) ts) (i + 1) (keep (takes i (getD ts i 0)) s)
-  narrow-on h some = there h ∙ go (keep (takes i (getD ts i 0)) s) (some .2) ∙ ap (λ (k : ℕ). narrow (drop (i + 1) ts) k (keep (takes i (getD ts i 0)) s)) (sym (add-one i))
+  pub step-on : (part : Part) (s : L.List Entry) → Some (keep (fits part i (getD ts i 0)) s)
+      → toCome part ts i s ≡ toCome (nextPart part) ts (nextAt part i) (keep (fits part i (getD ts i 0)) s)
+  step-on part s some = there part s ∙ go (keep (fits part i (getD ts i 0)) s) (some .2)
     where
-      go : (xs : L.List Entry) → first xs ≡ chosen (some .0) (some .1) → unlessEmpty i (λ (s′ : L.List Entry). narrow (drop (i + 1) ts) (suc i) s′) xs ≡ narrow (drop (i + 1) ts) (suc i) xs
+      go : (xs : L.List Entry) → first xs ≡ chosen (some .0) (some .1)
+          → unlessEmpty (emptied part i) (λ (s′ : L.List Entry). toCome (nextPart part) ts (nextAt part i) s′) xs ≡ toCome (nextPart part) ts (nextAt part i) xs
       go [] e = let z : _≡_ {A = ℕ} 0 1 = cc in absurd (omega arith)
       go (x ∷ xs) e = refl
 
-  -- there is no further operand
-  pub narrow-end : length ts ≤ i → narrow (drop i ts) i s ≡ left s
-  unfolding narrow
-  narrow-end h = ap (λ (l : L.List ℕ). narrow l i s) (drop-of-length-le ts h)
+-- there is no further operand
+pub narrow-end : (ts : L.List ℕ) (i : ℕ) (s : L.List Entry) → length ts ≤ i → narrow (drop i ts) i s ≡ left s
+unfolding narrow
+narrow-end ts i s h = ap (λ (l : L.List ℕ). narrow l i s) (drop-of-length-le ts h)
 
 -- ---- the count
 

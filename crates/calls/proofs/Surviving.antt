@@ -70,7 +70,7 @@ module _ (switch : Bool) (rules : List Signature) (ts : List ℕ) where
 
   after-members : (m : ℕ) (y : Narrowed) → Narrows ts 0 (number 0 rules) y → survivorsAfter switch y ≡ accepted (m ∷ [])
       → (m ≡ mask) × Some surviving × (afterOperands switch y ≡ first surviving)
-  after-members m (emptied k) h e = let z : _≡_ {A = ℕ} 0 1 = cc in absurd (omega arith)
+  after-members m (emptied part k) h e = let z : _≡_ {A = ℕ} 0 1 = cc in absurd (omega arith)
   after-members m (left s) h e =
       let f = left-is s (h .0) in
       let g = members-is surviving m (sym (ap membersOf f) ∙ e) in
@@ -102,7 +102,7 @@ module _ (switch : Bool) (rules : List Signature) (ts : List ℕ) where
   )
 
   refused-after : (y : Narrowed) (n p : ℕ) → survivorsAfter switch y ≡ refusal n p (0 ∷ []) ↔ answered (afterOperands switch y) ≡ refusal n p noChoice
-  refused-after (emptied k) n p = (λ e. cc, λ e. cc)
+  refused-after (emptied part k) n p = (λ e. cc, λ e. cc)
   refused-after (left s) n p = refused-first (concreteStep switch s) n p
 
   pub survivors-refused : (n p : ℕ) → survivorsOf switch rules ts ≡ refusal n p (0 ∷ []) ↔ answered (resolve switch rules ts) ≡ refusal n p noChoice
@@ -120,7 +120,7 @@ module _ (switch : Bool) (rules : List Signature) (ts : List ℕ) where
   abbrev pub There : Choice → Type 0
   There (chosen i r) = (length ts ≡ longest rules) × (getElem? rules i ≡ some r)
   There wrongCount = Unit
-  There (noneAfter k) = k < length ts
+  There (noneAfter part k) = k < length ts
   There noneConcrete = Unit
 
   first-there : length ts ≡ longest rules → (s : List Entry) → s ≡ surviving → There (first s)
@@ -129,7 +129,7 @@ module _ (switch : Bool) (rules : List Signature) (ts : List ℕ) where
 
   narrowed-there : length ts ≡ longest rules → (y : Narrowed) → Narrows ts 0 (number 0 rules) y → There (afterOperands switch y)
   narrowed-there l (left s) h = first-there l (concreteStep switch s) (left-is s (h .0))
-  narrowed-there l (emptied k) h =
+  narrowed-there l (emptied part k) h =
       let at : k ≡ 0 + h .0 = h .1 in
       let lt : h .0 < length ts = h .2 in
       omega arith

@@ -1,6 +1,6 @@
 -- 'A single call': tests the function (7, place 0), each type in turn (7, place 1 + index), the count (5, place 0), each argument in
--- turn (6, place 1 + index), then, if asked, drops rules with an abstract argument, then asks the preferred rule (1 where none is
--- left). Said over any number of functions and any listing of each.
+-- turn (6 by its shape, then 16 by its number, place 1 + index), then, if asked, drops rules with an abstract argument, then asks the
+-- preferred rule (1 where none is left). Said over any number of functions and any listing of each.
 use mathlib.Core.Bool.{Bool}
 use mathlib.Core.List as L
 use mathlib.Core.List.{[], _∷_, map}
@@ -14,7 +14,7 @@ use Rattle.rules.specs.Rule.{ruleOf}
 use Rattle.rules.specs.RulePaper.{ruleValues}
 use Rattle.lists.specs.Entry.{Entry, number}
 use Rattle.lists.specs.ChosenPaper.{noChoice}
-use Rattle.calls.specs.Choice.{ifCounted, Narrowed, left, emptied, narrow, Choice, chosen, wrongCount, noneAfter, noneConcrete, concreteStep, resolve}
+use Rattle.calls.specs.Choice.{ifCounted, Narrowed, left, emptied, narrow, noneLeft, Choice, chosen, wrongCount, noneAfter, noneConcrete, concreteStep, resolve}
 
 -- ---- a call
 
@@ -22,7 +22,7 @@ use Rattle.calls.specs.Choice.{ifCounted, Narrowed, left, emptied, narro
 abbrev pub answered : Choice → Paper
 answered (chosen i r) = accepted (i ∷ ruleValues (ruleOf r))
 answered wrongCount = refusal 5 0 noChoice
-answered (noneAfter k) = refusal 6 (1 + k) noChoice
+answered (noneAfter part k) = refusal (noneLeft part) (1 + k) noChoice
 answered noneConcrete = refusal 1 0 noChoice
 
 -- an unknown function is refusal 7 at 0, then an unknown type at 1 + its index, with these values; then the answer
@@ -40,7 +40,7 @@ membersOf [] = refusal 1 0 (0 ∷ [])
 membersOf (x ∷ xs) = accepted (maskOf (map (λ (y : Entry). y .index) (x ∷ xs)) ∷ [])
 
 abbrev pub survivorsAfter : Bool → Narrowed → Paper
-survivorsAfter switch (emptied k) = refusal 6 (1 + k) (0 ∷ [])
+survivorsAfter switch (emptied part k) = refusal (noneLeft part) (1 + k) (0 ∷ [])
 survivorsAfter switch (left s) = membersOf (concreteStep switch s)
 
 unfoldable pub survivorsOf : Bool → L.List Signature → L.List ℕ → Paper

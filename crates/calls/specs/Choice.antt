@@ -1,11 +1,14 @@
--- 'A single call': the rule that a call means, chosen from its function's listing by the steps of document 01, or what is wrong.
+-- 'A single call': the rule that a call means, chosen from its function's listing by the steps of document 01, of which document 02's (iv)
+-- makes an operand's two; or what is wrong.
 use mathlib.Core.Bool.{Bool, true, false}
 use mathlib.Core.List.{List, [], _∷_}
 use Prim.Native.Nat.{ℕ, suc}
 use lib.Dec.{ltb}
 use lib.ListN.{length}
 use Rattle.scalars.specs.Mask.{choose, either}
-use Rattle.rules.specs.Signature.{Signature, takes, concrete}
+use Rattle.rules.specs.Signature.{Signature, fits, concrete}
+use Rattle.rules.specs.declared.rule.Part.{Part}
+use Rattle.rules.specs.declared.rule.Part.the-variants.{Shape, Number}
 use Rattle.rules.specs.Verdict.{longest}
 use Rattle.lists.specs.Entry.{Entry, number, keep}
 
@@ -20,24 +23,35 @@ mostCount rs = longest rs
 abbrev pub ifCounted {ℓ} : {A : Type ℓ} → List Signature → List ℕ → A → A → A
 ifCounted rules ts wrong answer = choose (either (ltb (length ts) (leastCount rules)) (ltb (mostCount rules) (length ts))) wrong answer
 
--- what is left after each operand in turn, or the operand that emptied the set
+-- what is left after each operand in turn, or the part and the operand that emptied the set
 pub data Narrowed : Type 0 where
   left : List Entry → Narrowed
-  emptied : ℕ → Narrowed
+  emptied : Part → ℕ → Narrowed
 
-abbrev pub unlessEmpty : ℕ → (List Entry → Narrowed) → List Entry → Narrowed
-unlessEmpty k go [] = emptied k
-unlessEmpty k go (x ∷ xs) = go (x ∷ xs)
+abbrev pub unlessEmpty : Narrowed → (List Entry → Narrowed) → List Entry → Narrowed
+unlessEmpty stop next [] = stop
+unlessEmpty stop next (x ∷ xs) = next (x ∷ xs)
 
+-- a step by one part of the operand k, of the type t, and what follows it
+abbrev pub partStep : Part → ℕ → ℕ → (List Entry → Narrowed) → List Entry → Narrowed
+partStep part k t next s = unlessEmpty (emptied part k) next (keep (fits part k t) s)
+
+-- each operand by its shape, then by its number, before the next operand
 unfoldable pub narrow : List ℕ → ℕ → List Entry → Narrowed
 narrow [] k s = left s
-narrow (t ∷ ts) k s = unlessEmpty k (λ (s′ : List Entry). narrow ts (suc k) s′) (keep (takes k t) s)
+narrow (t ∷ ts) k s = partStep Shape k t (partStep Number k t (λ (s′ : List Entry). narrow ts (suc k) s′)) s
 
--- the rule and its index; a wrong count (5); no rule left after an operand (6); none left by the concrete-only step (1)
+-- the refusal's number where a step by this part empties the set
+abbrev pub noneLeft : Part → ℕ
+noneLeft Shape = 6
+noneLeft Number = 16
+
+-- the rule and its index; a wrong count (5); no rule left after an operand's shape (6) or number (16); none left by the concrete-only
+-- step (1)
 pub data Choice : Type 0 where
   chosen : ℕ → Signature → Choice
   wrongCount : Choice
-  noneAfter : ℕ → Choice
+  noneAfter : Part → ℕ → Choice
   noneConcrete : Choice
 
 abbrev pub first : List Entry → Choice
@@ -50,7 +64,7 @@ concreteStep false s = s
 concreteStep true s = keep concrete s
 
 abbrev pub afterOperands : Bool → Narrowed → Choice
-afterOperands switch (emptied k) = noneAfter k
+afterOperands switch (emptied part k) = noneAfter part k
 afterOperands switch (left s) = first (concreteStep switch s)
 
 unfoldable pub resolve : Bool → List Signature → List ℕ → Choice

@@ -21,13 +21,16 @@ ghost use Rattle.calls.specs.Call.{answered};
 ghost use Rattle.calls.specs.private.CallSets.{Callable, Full, rank, placeIn, indexedRule, preferredIn};
 ghost use Rattle.calls.specs.private.Steps.{Within, maskAnswer, survivorsBy, Stepped, Placed};
 use crate::outcome::Outcome;
+use crate::outcome::none_left;
 use lists::Chosen;
 use lists::List;
 use lists::RuleSet;
 use lists::filter;
+use lists::filter_both;
 use lists::longest;
 use regular::Regular;
 use rules::Keep;
+use rules::Part;
 use rules::RuleAnswer;
 use scalars::BitNumber;
 use scalars::BitStep;
@@ -48,8 +51,8 @@ pub enum Survivors {
 pub(crate) enum Steps {
     // The number of operands is not the longest rule's.
     WrongCount,
-    // No rule takes the operands up to this one.
-    NoneAfter(usize),
+    // The step by this part of this operand leaves no rule.
+    NoneAfter(Part, usize),
     // The rules that take every operand and pass the switch; none where it dropped them all.
     Left(RuleSet),
 }
@@ -65,9 +68,14 @@ pub(crate) fn call_regular(set: Regular, operands: &[u8], switch: bool) -> Outco
     let mut left = set;
     let mut i: usize = 0;
     while i < operands.len() {
-        left = left.narrow(operands[i]);
+        let t = operands[i];
+        left = left.narrow(Part::Shape, t);
         if left.holds_none() {
-            return Outcome::NoneAfter(i);
+            return Outcome::NoneAfter(Part::Shape, i);
+        }
+        left = left.narrow(Part::Number, t);
+        if left.holds_none() {
+            return Outcome::NoneAfter(Part::Number, i);
         }
         i += 1;
     }
@@ -138,7 +146,7 @@ pub(crate) fn call_list(list: List, operands: &[u8], switch: bool) -> Outcome
 {
     match stepped(list, operands, switch) {
         Steps::WrongCount => Outcome::WrongCount,
-        Steps::NoneAfter(operand) => Outcome::NoneAfter(operand),
+        Steps::NoneAfter(part, operand) => Outcome::NoneAfter(part, operand),
         Steps::Left(rules) => first_of(list, rules),
     }
 }
@@ -161,8 +169,8 @@ fn first_of(list: List, rules: RuleSet) -> Outcome
     }
 }
 
-// What a call's steps leave of a List: each operand in turn leaves the rules that take it, then the switch those without an abstract
-// argument.
+// What a call's steps leave of a List: each operand in turn leaves the rules of its shape, and of those the ones that its number fits;
+// then the switch those without an abstract argument.
 pub(crate) fn stepped(list: List, operands: &[u8], switch: bool) -> Steps
     requires { ⌜ Full list ⌝ }
     ensures { λ r. ⌜ Stepped switch list (now (operands .entry)) r ⌝ }
@@ -173,9 +181,13 @@ pub(crate) fn stepped(list: List, operands: &[u8], switch: bool) -> Steps
     let mut left = RuleSet(list.members);
     let mut i: usize = 0;
     while i < operands.len() {
-        left = filter(list, left, Keep::Argument(i, operands[i]));
+        let operand = filter_both(list, left, i, operands[i]);
+        if operand.shaped.0 == 0 {
+            return Steps::NoneAfter(Part::Shape, i);
+        }
+        left = operand.left;
         if left.0 == 0 {
-            return Steps::NoneAfter(i);
+            return Steps::NoneAfter(Part::Number, i);
         }
         i += 1;
     }
@@ -203,7 +215,7 @@ pub(crate) fn surviving(left: Steps) -> Survivors
 {
     match left {
         Steps::WrongCount => Survivors::Refused(Refusal::WrongCount(0)),
-        Steps::NoneAfter(operand) => Survivors::Refused(Refusal::NoRuleLeft(1 + operand)),
+        Steps::NoneAfter(part, operand) => Survivors::Refused(none_left(part, 1 + operand)),
         Steps::Left(rules) => members(rules),
     }
 }

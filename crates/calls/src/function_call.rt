@@ -28,8 +28,8 @@ use scalars::Verdict;
 use types::first_unknown;
 
 // The rule that a call of the function with operands of these types means, with its index in the function's full listing. Refused 7 at
-// 0 for the function, at 1 + index for a type; 5 for the number of operands; 6 at 1 + index for the operand that leaves no rule; 1 where
-// the concrete-only switch leaves none.
+// 0 for the function, at 1 + index for a type; 5 for the number of operands; 6 at 1 + index for the operand of whose shape no rule is
+// left, 16 for the one whose number none of those takes; 1 where the concrete-only switch leaves none.
 pub fn call_of(function: u8, operands: &[u8], switch: bool) -> ChosenAnswer
     ensures { λ r. ⌜ chosenPaper r ≡ callOf functionCount listingOf switch function (now (operands .entry)) ⌝ }
 {

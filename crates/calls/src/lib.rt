@@ -15,3 +15,4 @@ pub use function_call::outcome_of;
 pub use function_call::survivors_of;
 pub use function_list::full_list;
 pub use outcome::Outcome;
+pub use outcome::none_left;

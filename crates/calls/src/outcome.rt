@@ -2,11 +2,15 @@
 // given to it by a `match`: here for a call by itself, and in the crate `worksheet` for a call in an expression.
 
 ghost use mathlib.Core.Path.{_≡_};
+ghost use mathlib.Core.List.{[]};
+ghost use Rattle.scalars.specs.Paper.{refusal, refusalPaper};
 ghost use Rattle.lists.specs.ChosenPaper.{chosenPaper};
+ghost use Rattle.calls.specs.Choice.{noneLeft};
 ghost use Rattle.calls.specs.OutcomePaper.{outcomePaper};
 ghost use Rattle.calls.specs.private.Steps.{OutcomePlaced};
 use lists::Chosen;
 use lists::ChosenAnswer;
+use rules::Part;
 use scalars::Refusal;
 
 pub enum Outcome {
@@ -14,13 +18,23 @@ pub enum Outcome {
     Rule(Chosen),
     // The number of operands is not that of the rules.
     WrongCount,
-    // No rule takes the operands up to this one.
-    NoneAfter(usize),
+    // The step by this part of this operand leaves no rule: none of its shape, or of those none with a fitting number.
+    NoneAfter(Part, usize),
     // The concrete-only step left none of the rules that take the operands.
     NoneConcrete,
 }
 
-// The answer to a call by itself: refused 5 at 0 for a wrong count, 6 at 1 + index for an operand, 1 at 0 for the concrete-only step.
+// The refusal where a step by this part leaves no rule: 6 by its shape, 16 by its number.
+pub fn none_left(part: Part, place: usize) -> Refusal
+    ensures { λ r. ⌜ refusalPaper r ≡ refusal (noneLeft part) place [] ⌝ }
+{
+    match part {
+        Part::Shape => Refusal::WrongShape(place),
+        Part::Number => Refusal::WrongNumber(place),
+    }
+}
+
+// The answer to a call by itself: refused 5 at 0 for a wrong count, 6 or 16 at 1 + index for an operand, 1 at 0 for the concrete-only step.
 pub(crate) fn single(outcome: Outcome) -> ChosenAnswer
     requires { ⌜ OutcomePlaced outcome ⌝ }
     ensures { λ r. ⌜ chosenPaper r ≡ outcomePaper outcome ⌝ }
@@ -28,7 +42,7 @@ pub(crate) fn single(outcome: Outcome) -> ChosenAnswer
     match outcome {
         Outcome::Rule(chosen) => ChosenAnswer::Rule(chosen),
         Outcome::WrongCount => ChosenAnswer::Refused(Refusal::WrongCount(0)),
-        Outcome::NoneAfter(operand) => ChosenAnswer::Refused(Refusal::NoRuleLeft(1 + operand)),
+        Outcome::NoneAfter(part, operand) => ChosenAnswer::Refused(none_left(part, 1 + operand)),
         Outcome::NoneConcrete => ChosenAnswer::Refused(Refusal::EmptySet(0)),
     }
 }

@@ -16,6 +16,7 @@ use Rattle.rules.specs.RulePaper.{ruleValues}
 use Rattle.lists.specs.ChosenPaper.{listValues, noChoice}
 use Rattle.lists.specs.declared.list.List.{List}
 use Rattle.rules.specs.declared.rule.Rule.{Rule}
+use Rattle.rules.specs.declared.rule.Part.{Part}
 use Rattle.rules.specs.declared.rule.Keep.{Keep}
 use Rattle.rules.specs.declared.rule.Keep.the-variants.{Argument}
 
@@ -70,8 +71,8 @@ unfoldable pub listStep : Keep → List → Paper
 listStep k l = onVerdict (verdictOf l) (acceptedList (kept k (cleanList l))) noListValues
 
 -- an operand's type above 180 is refusal 7
-unfoldable pub listArg : ℕ → ℕ → List → Paper
-listArg i t l = choose (known? t) (listStep (Argument i t) l) (refusal 7 0 noListValues)
+unfoldable pub listArg : Part → ℕ → ℕ → List → Paper
+listArg part i t l = choose (known? t) (listStep (Argument part i t) l) (refusal 7 0 noListValues)
 
 unfoldable pub listEmpty : List → Paper
 listEmpty l = onVerdict (verdictOf l) (emptyOf (listing l)) (unused ∷ [])

@@ -20,6 +20,7 @@ use regular::Regular;
 use regular::RegularAnswer;
 use rules::AllowedArgs;
 use rules::Listing;
+use rules::Part;
 use rules::Rule;
 use rules::RuleAnswer;
 use scalars::CountAnswer;
@@ -95,14 +96,14 @@ impl AnyOverloadSet {
         }
     }
 
-    // The rules that take a type at an argument, as its kind answers.
-    pub fn arg(self, i: usize, t: u8) -> AnyAnswer
-        ensures { λ r. ⌜ anyPaper r ≡ bySet (λ r. ofRegular (regularArg i t r)) (λ l. ofList (listArg i t l)) self ⌝ }
+    // The rules whose type at an argument fits a part of this one, as its kind answers.
+    pub fn arg(self, part: Part, i: usize, t: u8) -> AnyAnswer
+        ensures { λ r. ⌜ anyPaper r ≡ bySet (λ r. ofRegular (regularArg part i t r)) (λ l. ofList (listArg part i t l)) self ⌝ }
     {
         let kind = self.kind;
         match kind {
-            SetKind::Regular(set) => regular_answer(set.arg(i, t)),
-            SetKind::List(len, members) => list_answer(self.as_list(len, members).arg(i, t)),
+            SetKind::Regular(set) => regular_answer(set.arg(part, i, t)),
+            SetKind::List(len, members) => list_answer(self.as_list(len, members).arg(part, i, t)),
         }
     }
 

@@ -18,6 +18,8 @@ pub use list::ChosenAnswer;
 pub use list::List;
 pub use list::ListAnswer;
 pub use list::MOST_RULES;
+pub use walks::BothSteps;
 pub use walks::RuleSet;
 pub use walks::filter;
+pub use walks::filter_both;
 pub use walks::longest;

@@ -25,6 +25,7 @@ use rules::AllowedArgs;
 use rules::Keep;
 use rules::Listing;
 use rules::MOST_ARGUMENTS;
+use rules::Part;
 use rules::Rule;
 use rules::no_listing;
 use rules::no_types;
@@ -116,14 +117,15 @@ impl List {
         Rule::BLANK
     }
 
-    // The members whose rule has that argument, and takes the type there. Refused 7 for a type code above 180, then as the List is.
-    pub fn arg(self, i: usize, t: u8) -> ListAnswer
-        ensures { λ r. ⌜ listPaper r ≡ listArg i t self ⌝ }
+    // The members whose rule has that argument, and fits a part of the type there: its constructor, or its scalar; the crate's `arg` is
+    // both steps. Refused 7 for a type code above 180, then as the List is.
+    pub fn arg(self, part: Part, i: usize, t: u8) -> ListAnswer
+        ensures { λ r. ⌜ listPaper r ≡ listArg part i t self ⌝ }
     {
         if LAST_CODE < t {
             return refused(Refusal::Unknown(0));
         }
-        self.step(Keep::Argument(i, t))
+        self.step(Keep::Argument(part, i, t))
     }
 
     // The members without an abstract argument. Refused as the List is.

@@ -1,6 +1,6 @@
 // The walks over the members of a List, lowest bit first, by `OneBitsIter::next` and `OneBit::number`. A step's walk answers which rules are
-// left, and not another array of them. `filter` and `longest` take any List, the others one that was tested; and since every call goes
-// through these two, they read the array in place by the member's number, where `List::rule` would be handed a copy of the List.
+// left, and not another array of them. `filter`, `filter_both` and `longest` take any List, the others one that was tested; and since calls
+// go through these, they read the array in place by the member's number, where `List::rule` would be handed a copy of the List.
 
 ghost use mathlib.Core.Path.{_≡_};
 ghost use Prim.Native.Nat.{_%_, _^_, min};
@@ -9,7 +9,9 @@ ghost use Rattle.rules.specs.RulePaper.{listingPaper, typesPaper};
 ghost use Rattle.lists.specs.ChosenPaper.{chosenPaper};
 ghost use Rattle.rules.specs.Listing.{acceptedListing};
 ghost use Rattle.rules.specs.Rule.{passes};
-ghost use Rattle.scalars.specs.Mask.{sift};
+ghost use Rattle.rules.specs.declared.rule.Part.the-variants.{Shape, Number};
+ghost use Rattle.rules.specs.declared.rule.Keep.the-variants.{Argument};
+ghost use Rattle.scalars.specs.Mask.{choose, sift};
 ghost use Rattle.lists.specs.private.Tested.{Valid};
 ghost use Rattle.lists.specs.List.{mostRules, preferredOf, allowedOf, signatures, listing, entries};
 ghost use Rattle.rules.specs.Verdict.{countOf};
@@ -20,6 +22,7 @@ use crate::list::held;
 use rules::AllowedArgs;
 use rules::Keep;
 use rules::Listing;
+use rules::Part;
 use rules::no_codes;
 use rules::no_rules;
 use rules::no_types;
@@ -53,6 +56,52 @@ pub fn filter(list: List, rules: RuleSet, keep: Keep) -> RuleSet
             }
         }
     }
+}
+
+// What the two steps of an operand leave: by its shape, and of those by its number.
+pub struct BothSteps {
+    pub shaped: RuleSet,
+    pub left: RuleSet,
+}
+
+// Both steps of an operand at an index, in one walk, since every call makes both: a List that is handed to two walks is copied twice.
+pub fn filter_both(list: List, rules: RuleSet, i: usize, t: u8) -> BothSteps
+    ensures shaped { λ r. ⌜ r .shaped .0 ≡ sift (passes (Argument Shape i t)) (signatures list) (rules .0) ⌝ }
+    ensures left { λ r. ⌜ r .left .0 ≡ sift (passes (Argument Number i t)) (signatures list) (r .shaped .0) ⌝ }
+{
+    let mut walk = OneBitsIter(with_rules(list.len, rules.0));
+    let mut shaped: u64 = 0;
+    let mut left: u64 = 0;
+    loop {
+        match walk.next() {
+            BitStep::Done => {
+                return BothSteps {
+                    shaped: RuleSet(shaped),
+                    left: RuleSet(left),
+                };
+            }
+            BitStep::Bit(bit, rest) => {
+                let number = bit.number();
+                let n = number.0 as usize;
+                let rule = list.rules[n];
+                let of_shape = if_kept(bit.0, rule.passes(Keep::Argument(Part::Shape, i, t)));
+                let of_both = if_kept(of_shape, rule.passes(Keep::Argument(Part::Number, i, t)));
+                shaped += of_shape;
+                left += of_both;
+                walk = rest;
+            }
+        }
+    }
+}
+
+// A member's mask, or no member's where it is not kept.
+fn if_kept(mask: u64, kept: bool) -> u64
+    ensures { λ r. ⌜ r ≡ choose kept mask 0 ⌝ }
+{
+    if kept {
+        return mask;
+    }
+    0
 }
 
 // The longest member's number of arguments. Refused 1 where no member is left.

@@ -14,7 +14,9 @@ use borrow.Author.Tests.{lt-ltb, ltb-true}
 use Rattle.scalars.specs.Mask.{choose, both, consIf, odd, filter, every, select, sift, upTo, bits, maskOf}
 use Rattle.scalars.specs.Domain.{scalars, abstract?, converts, scalarCount}
 use Rattle.types.specs.Domain.{constructors, value?, constructorPart, scalarPart, isAbstract, constructorCount, otherType}
-use Rattle.rules.specs.Signature.{reaches}
+use Rattle.rules.specs.Signature.{fitsBy}
+use Rattle.rules.specs.declared.rule.Part.{Part}
+use Rattle.rules.specs.declared.rule.Part.the-variants.{Shape, Number}
 use Rattle.scalars.specs.Scalar.{scalarsThat, convertibleFrom}
 use Rattle.types.specs.Constructor.{singletonOfCode}
 use Rattle.regular.specs.Regular.{pairs, codesOf, narrowed, concreteSet, reachedScalars}
@@ -22,7 +24,7 @@ use Rattle.regular.specs.declared.regular.Regular.{Regular}
 use Rattle.scalars.proofs.Table.{at}
 use Rattle.scalars.proofs.Meets.{select-meet, select-ones}
 use Rattle.scalars.proofs.Bits.{mask-filter}
-use Rattle.scalars.proofs.Filters.{both-left, both-right, both-true, filter-among, filter-all, filter-none, filter-append, filter-map}
+use Rattle.scalars.proofs.Filters.{both-comm, both-left, both-right, both-true, filter-among, filter-true, filter-none, filter-append, filter-map}
 
 -- ---- a mask met with the mask of the numbers that pass
 
@@ -48,14 +50,17 @@ every-select p (x ∷ xs) m e = go (odd m) (every-select p xs (m / 2) (both-righ
 
 -- ---- the masks of a step, as masks of the numbers that pass a test
 
--- the constructor that a type has, and the scalars that it reaches; none for a type without a scalar
-abbrev pub shapes : ℕ → ℕ → Bool
-shapes t k = both (value? t) (eqb (constructorPart t) k)
+-- what a step by either part asks of a constructor, and of a scalar: a step by shape asks nothing of scalars, one by number nothing of
+-- constructors; a type without a scalar has no constructor either
+abbrev pub shapes : Part → ℕ → ℕ → Bool
+shapes Shape t k = both (value? t) (eqb (constructorPart t) k)
+shapes Number t k = true
 
-abbrev pub numbers : ℕ → ℕ → Bool
-numbers t s = both (value? t) (converts (scalarPart t) s)
+abbrev pub numbers : Part → ℕ → ℕ → Bool
+numbers Shape t s = true
+numbers Number t s = both (value? t) (converts (scalarPart t) s)
 
-shape-mask : (t : ℕ) → singletonOfCode t ≡ maskOf (filter (shapes t) constructors)
+shape-mask : (t : ℕ) → singletonOfCode t ≡ maskOf (filter (shapes Shape t) constructors)
 unfolding singletonOfCode
 shape-mask t = go (value? t) refl
   where
@@ -65,7 +70,7 @@ shape-mask t = go (value? t) refl
         sym (eqb→eq _ _ (at (λ i x. eqb (maskOf (filter (λ k. eqb i k) constructors)) (2 ^ i)) constructors tt (t / scalarCount) (omega arith)))
     go false e = refl
 
-number-mask : (t : ℕ) → reachedScalars t ≡ maskOf (filter (numbers t) scalars)
+number-mask : (t : ℕ) → reachedScalars t ≡ maskOf (filter (numbers Number t) scalars)
 unfolding reachedScalars convertibleFrom
 number-mask t = go (value? t) refl
   where
@@ -107,12 +112,15 @@ module _ (p q r : ℕ → Bool) (e : (k s : ℕ) → k < constructorCount → s 
 
 -- ---- the types that a step leaves
 
-pub reaches-pair : (t k s : ℕ) → k < constructorCount → s < scalarCount → reaches t (k * scalarCount + s) ≡ both (shapes t k) (numbers t s)
-unfolding reaches
-reaches-pair t k s h l =
+pub fits-pair : (part : Part) (t k s : ℕ) → k < constructorCount → s < scalarCount
+    → fitsBy part t (k * scalarCount + s) ≡ both (shapes part t k) (numbers part t s)
+fits-pair Shape t k s h l =
     let row : (k * scalarCount + s) / scalarCount ≡ k = omega arith in
+    ap (λ (c : ℕ). both (value? t) (eqb (constructorPart t) c)) row ∙ both-comm true (both (value? t) (eqb (constructorPart t) k))
+fits-pair Number t k s h l =
     let column : (k * scalarCount + s) % scalarCount ≡ s = omega arith in
-    simp (row, column)
+    let value : k * scalarCount + s < otherType = omega arith in
+    simp (column, lt-ltb _ _ value, both-comm (value? t) true)
 
 pub concrete-pair : (k s : ℕ) → k < constructorCount → s < scalarCount → not (isAbstract (k * scalarCount + s)) ≡ both true (not (abstract? s))
 unfolding isAbstract
@@ -121,28 +129,30 @@ concrete-pair k s h l =
     let value : k * scalarCount + s < otherType = omega arith in
     simp (column, lt-ltb _ _ value)
 
-pub narrowed-constructors : (t : ℕ) (r : Regular) → bits constructorCount (narrowed t r .constructors .0) ≡ filter (shapes t) (bits constructorCount (r .constructors .0))
+pub narrowed-constructors : (part : Part) (t : ℕ) (r : Regular)
+    → bits constructorCount (narrowed part t r .constructors .0) ≡ filter (shapes part t) (bits constructorCount (r .constructors .0))
 unfolding narrowed
-narrowed-constructors t r = ap (λ (m : ℕ). bits constructorCount (bitAnd (r .constructors .0) m)) (shape-mask t) ∙ bits-meet constructorCount (shapes t) (r .constructors .0)
+narrowed-constructors Shape t r =
+    ap (λ (m : ℕ). bits constructorCount (bitAnd (r .constructors .0) m)) (shape-mask t) ∙ bits-meet constructorCount (shapes Shape t) (r .constructors .0)
+narrowed-constructors Number t r = sym (filter-true (bits constructorCount (r .constructors .0)))
 
-pub narrowed-scalars : (t : ℕ) (r : Regular) → bits scalarCount (narrowed t r .scalars .0) ≡ filter (numbers t) (bits scalarCount (r .scalars .0))
+pub narrowed-scalars : (part : Part) (t : ℕ) (r : Regular)
+    → bits scalarCount (narrowed part t r .scalars .0) ≡ filter (numbers part t) (bits scalarCount (r .scalars .0))
 unfolding narrowed
-narrowed-scalars t r = ap (λ (m : ℕ). bits scalarCount (bitAnd (r .scalars .0) m)) (number-mask t) ∙ bits-meet scalarCount (numbers t) (r .scalars .0)
+narrowed-scalars Shape t r = sym (filter-true (bits scalarCount (r .scalars .0)))
+narrowed-scalars Number t r =
+    ap (λ (m : ℕ). bits scalarCount (bitAnd (r .scalars .0) m)) (number-mask t) ∙ bits-meet scalarCount (numbers Number t) (r .scalars .0)
 
--- the argument step leaves the types that the operand's reaches
-pub narrowed-codes : (t : ℕ) (r : Regular) → codesOf (narrowed t r) ≡ filter (reaches t) (codesOf r)
+-- an argument step leaves the types that fit the operand's
+pub narrowed-codes : (part : Part) (t : ℕ) (r : Regular) → codesOf (narrowed part t r) ≡ filter (fitsBy part t) (codesOf r)
 unfolding codesOf
-narrowed-codes t r =
-    ap₂ pairs (narrowed-constructors t r) (narrowed-scalars t r)
-    ∙ sym (codes-filter (reaches t) (shapes t) (numbers t) (reaches-pair t) (r .constructors .0) (r .scalars .0))
+narrowed-codes part t r =
+    ap₂ pairs (narrowed-constructors part t r) (narrowed-scalars part t r)
+    ∙ sym (codes-filter (fitsBy part t) (shapes part t) (numbers part t) (fits-pair part t) (r .constructors .0) (r .scalars .0))
 
 -- the concrete-only step leaves the types that are not abstract
 pub concrete-codes : (r : Regular) → codesOf (concreteSet r) ≡ filter (λ a. not (isAbstract a)) (codesOf r)
 unfolding codesOf concreteSet
 concrete-codes r =
-    ap₂ pairs (sym (filter-all (λ k. true) (bits constructorCount (r .constructors .0)) (every-true (bits constructorCount (r .constructors .0))))) (bits-meet scalarCount (λ k. not (abstract? k)) (r .scalars .0))
+    ap₂ pairs (sym (filter-true (bits constructorCount (r .constructors .0)))) (bits-meet scalarCount (λ k. not (abstract? k)) (r .scalars .0))
     ∙ sym (codes-filter (λ a. not (isAbstract a)) (λ k. true) (λ k. not (abstract? k)) concrete-pair (r .constructors .0) (r .scalars .0))
-  where
-    every-true : (ks : List ℕ) → every (λ k. true) ks ≡ true
-    every-true [] = refl
-    every-true (k ∷ ks) = every-true ks

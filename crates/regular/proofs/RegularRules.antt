@@ -2,7 +2,7 @@
 -- each has its conclusion, a result that is a type. Assumes nothing.
 use mathlib.Core.Path.{_≡_, refl, ap, _∙_}
 use mathlib.Core.Bool.{Bool, true, false, not}
-use mathlib.Core.List.{List, [], _∷_, _++_, map}
+use mathlib.Core.List.{List, [], _∷_, map}
 use Prim.Native.Nat.{ℕ, zero, suc, _+_, _*_, _≤_, _<_}
 use native.Mathlib.Omega.{arith}
 use lib.Dec.{T, leb, ltb}
@@ -20,7 +20,7 @@ use Rattle.regular.specs.declared.regular.ConclusionRule.{ConclusionRule
 use Rattle.regular.specs.declared.regular.ConclusionRule.the-variants.{ArgumentType, Scalar, Frexp, Modf, U32, I32, Vec2F, Vec4F, Vec4I, Vec4U}
 use Rattle.regular.specs.declared.regular.Regular.{Regular}
 use Rattle.scalars.proofs.Table as table
-use Rattle.scalars.proofs.Filters.{both-left, both-right, both-true}
+use Rattle.scalars.proofs.Filters.{both-left, both-right, both-true, every-append}
 use Rattle.regular.proofs.RegularCodes.{every-select}
 
 -- the rule of an argument type has a conclusion
@@ -28,10 +28,6 @@ abbrev pub concludes : Regular → ℕ → Bool
 concludes r t = concluded? (concludedOf (r .conclude) t)
 
 -- ---- every argument type is a value type
-
-every-append : (p : ℕ → Bool) (xs ys : List ℕ) → every p xs ≡ true → every p ys ≡ true → every p (xs ++ ys) ≡ true
-every-append p [] ys e f = f
-every-append p (x ∷ xs) ys e f = both-true (both-left (p x) _ e) (every-append p xs ys (both-right (p x) _ e) f)
 
 row-values : (k : ℕ) → k < constructorCount → (ss : List ℕ) → every (λ s. ltb s scalarCount) ss ≡ true → every value? (map (λ s. k * scalarCount + s) ss) ≡ true
 row-values k h [] e = refl

@@ -1,5 +1,5 @@
--- A step of a Regular set, by its two masks, filters its listing by what a List's step asks of each rule: the argument step keeps
--- the rules that take the type at the index, the concrete-only step those without an abstract argument. Assumes nothing.
+-- A step of a Regular set, by its two masks, filters its listing by what a List's step asks of each rule: an argument step keeps the
+-- rules whose type at the index fits the operand's by the step's part, the concrete-only step those without an abstract argument. Assumes nothing.
 use mathlib.Core.Path.{_≡_, refl, sym, ap, _∙_}
 use mathlib.Core.Bool.{Bool, true, false, not}
 use mathlib.Core.List.{map}
@@ -11,7 +11,9 @@ use lib.ListN.{replicate}
 use Rattle.scalars.specs.Mask.{both, filter, bits}
 use Rattle.scalars.specs.Domain.{abstract?}
 use Rattle.types.specs.Domain.{isAbstract}
-use Rattle.rules.specs.Signature.{reaches, takesAt, takes, concrete}
+use Rattle.rules.specs.Signature.{fitsBy, argumentPasses, fits, concrete}
+use Rattle.rules.specs.declared.rule.Part.{Part}
+use Rattle.rules.specs.declared.rule.Part.the-variants.{Shape, Number}
 use Rattle.rules.proofs.Records.{allConcrete}
 use Rattle.scalars.specs.Scalar.{scalarsThat}
 use Rattle.types.specs.Constructor.{singletonOfCode}
@@ -23,17 +25,18 @@ use Rattle.regular.proofs.RegularCodes.{narrowed-codes, concrete-codes}
 
 -- ---- a rule of equal arguments
 
--- a rule of equal arguments takes a type where its one type does
-pub takes-each : (n i t a : ℕ) → i < n → takesAt i t (replicate n a) ≡ reaches t a
-takes-each zero i t a h = absurd (not-suc-le-zero h)
-takes-each (suc n) zero t a h = refl
-takes-each (suc n) (suc i) t a h = takes-each n i t a (le-of-suc-le-suc h)
+module _ (p : ℕ → Bool) where
+  -- a rule of equal arguments passes a test where its one type does
+  pub passes-each : (n i a : ℕ) → i < n → argumentPasses p i (replicate n a) ≡ p a
+  passes-each zero i a h = absurd (not-suc-le-zero h)
+  passes-each (suc n) zero a h = refl
+  passes-each (suc n) (suc i) a h = passes-each n i a (le-of-suc-le-suc h)
 
--- it takes none past its arguments
-takes-past : (n i t a : ℕ) → n ≤ i → takesAt i t (replicate n a) ≡ false
-takes-past zero i t a h = refl
-takes-past (suc n) zero t a h = absurd (not-suc-le-zero h)
-takes-past (suc n) (suc i) t a h = takes-past n i t a (le-of-suc-le-suc h)
+  -- it passes none past its arguments
+  passes-past : (n i a : ℕ) → n ≤ i → argumentPasses p i (replicate n a) ≡ false
+  passes-past zero i a h = refl
+  passes-past (suc n) zero a h = absurd (not-suc-le-zero h)
+  passes-past (suc n) (suc i) a h = passes-past n i a (le-of-suc-le-suc h)
 
 pub concrete-each : (n a : ℕ) → 1 ≤ n → allConcrete (replicate n a) ≡ not (isAbstract a)
 concrete-each zero a h = absurd (not-suc-le-zero h)
@@ -50,18 +53,26 @@ concrete-each (suc n) a h = go n
 -- ---- a step filters the listing
 
 -- an argument step at an index below the arity
-pub narrowed-rules : (i t : ℕ) (r : Regular) → i < r .arity → regularRules (narrowed t r) ≡ filter (takes i t) (regularRules r)
+pub narrowed-rules : (part : Part) (i t : ℕ) (r : Regular) → i < r .arity → regularRules (narrowed part t r) ≡ filter (fits part i t) (regularRules r)
 unfolding regularRules narrowed
-narrowed-rules i t r h =
-    ap (map (signatureFor r)) (narrowed-codes t r ∙ filter-same (reaches t) (λ a. takesAt i t (replicate (r .arity) a)) (λ a. sym (takes-each (r .arity) i t a h)) (codesOf r))
-    ∙ sym (filter-map (takes i t) (signatureFor r) (codesOf r))
+narrowed-rules part i t r h =
+    kept part
+    ∙ ap (map (signatureFor r))
+    (filter-same (fitsBy part t) (λ a. argumentPasses (fitsBy part t) i (replicate (r .arity) a))
+    (λ a. sym (passes-each (fitsBy part t) (r .arity) i a h)) (codesOf r))
+    ∙ sym (filter-map (fits part i t) (signatureFor r) (codesOf r))
+  where
+    kept : (w : Part) → map (signatureFor (narrowed w t r)) (codesOf (narrowed w t r)) ≡ map (signatureFor r) (filter (fitsBy w t) (codesOf r))
+    kept Shape = ap (map (signatureFor r)) (narrowed-codes Shape t r)
+    kept Number = ap (map (signatureFor r)) (narrowed-codes Number t r)
 
 -- at or above it, no rule is left
-pub past-rules : (i t : ℕ) (r : Regular) → r .arity ≤ i → regularRules emptyRegular ≡ filter (takes i t) (regularRules r)
+pub past-rules : (part : Part) (i t : ℕ) (r : Regular) → r .arity ≤ i → regularRules emptyRegular ≡ filter (fits part i t) (regularRules r)
 unfolding regularRules codesOf bits
-past-rules i t r h =
-    sym (filter-map (takes i t) (signatureFor r) (codesOf r)
-    ∙ ap (map (signatureFor r)) (filter-none (λ a. takesAt i t (replicate (r .arity) a)) (λ a. takes-past (r .arity) i t a h) (codesOf r)))
+past-rules part i t r h =
+    sym (filter-map (fits part i t) (signatureFor r) (codesOf r)
+    ∙ ap (map (signatureFor r))
+    (filter-none (λ a. argumentPasses (fitsBy part t) i (replicate (r .arity) a)) (λ a. passes-past (fitsBy part t) (r .arity) i a h) (codesOf r)))
 
 -- a concrete-only step of rules that have an argument
 pub concrete-rules : (r : Regular) → 1 ≤ r .arity → regularRules (concreteSet r) ≡ filter concrete (regularRules r)
@@ -72,10 +83,15 @@ concrete-rules r h =
 
 -- ---- a step keeps a set within its bounds, its arity and its conclusion
 
-pub narrowed-known : (t : ℕ) (r : Regular) → Known r → Known (narrowed t r)
+pub narrowed-known : (part : Part) (t : ℕ) (r : Regular) → Known r → Known (narrowed part t r)
 unfolding narrowed
-narrowed-known t r known = record {
+narrowed-known Shape t r known = record {
   constructors = lt-of-le-of-lt (and-le-l (r .constructors .0) (singletonOfCode t)) (known .constructors);
+  scalars = known .scalars;
+  arity = known .arity;
+}
+narrowed-known Number t r known = record {
+  constructors = known .constructors;
   scalars = lt-of-le-of-lt (and-le-l (r .scalars .0) (reachedScalars t)) (known .scalars);
   arity = known .arity;
 }

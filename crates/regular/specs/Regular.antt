@@ -18,6 +18,8 @@ use Rattle.types.specs.TypeCode.{typeCode, predeclaredCode, firstModf, firstFre
 use Rattle.rules.specs.Rule.{mostArguments, ruleOf}
 use Rattle.rules.specs.Listing.{acceptedListing, noListing, acceptedTypes, noTypes}
 use Rattle.rules.specs.Verdict.{onVerdict, emptyOf, countOf}
+use Rattle.rules.specs.declared.rule.Part.{Part}
+use Rattle.rules.specs.declared.rule.Part.the-variants.{Shape, Number}
 use Rattle.regular.specs.declared.regular.ConclusionRule.{ConclusionRule}
 use Rattle.regular.specs.declared.regular.ConclusionRule.the-variants.{ArgumentType, Scalar, Frexp, Modf, U32, I32, Vec2F, Vec4F, Vec4I, Vec4U}
 use Rattle.regular.specs.declared.regular.Regular.{Regular}
@@ -94,19 +96,20 @@ emptyRegular = regularOf 0 0 0 ArgumentType
 unfoldable pub emptySet? : Regular → Bool
 emptySet? r = either (eqb (r .constructors .0) 0) (eqb (r .scalars .0) 0)
 
--- the argument keeps its own constructor and the scalars it converts to
+-- the scalars that a type's scalar converts to; codes from 156 on have none
 unfoldable pub reachedScalars : ℕ → ℕ
 reachedScalars t = choose (value? t) (convertibleFrom (scalarPart t)) 0
 
-unfoldable pub narrowed : ℕ → Regular → Regular
-narrowed t r =
-    regularOf (r .arity) (bitAnd (r .constructors .0) (singletonOfCode t)) (bitAnd (r .scalars .0) (reachedScalars t)) (r .conclude)
+-- by its shape the argument keeps its own constructor, by its number the scalars it converts to
+unfoldable pub narrowed : Part → ℕ → Regular → Regular
+narrowed Shape t r = regularOf (r .arity) (bitAnd (r .constructors .0) (singletonOfCode t)) (r .scalars .0) (r .conclude)
+narrowed Number t r = regularOf (r .arity) (r .constructors .0) (bitAnd (r .scalars .0) (reachedScalars t)) (r .conclude)
 
 -- an index at or above the arity gives the set of no rules; an operand's type above 180 is refusal 7
-unfoldable pub regularArg : ℕ → ℕ → Regular → Paper
-regularArg i t r =
+unfoldable pub regularArg : Part → ℕ → ℕ → Regular → Paper
+regularArg part i t r =
     choose (known? t)
-    (onVerdict (regularVerdict r) (accepted (regularValues (choose (ltb i (r .arity)) (narrowed t r) emptyRegular))) noSet)
+    (onVerdict (regularVerdict r) (accepted (regularValues (choose (ltb i (r .arity)) (narrowed part t r) emptyRegular))) noSet)
     (refusal 7 0 noSet)
 
 unfoldable pub concreteSet : Regular → Regular

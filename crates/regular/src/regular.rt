@@ -21,6 +21,7 @@ use rules::AllowedArgs;
 use rules::LONGEST_LISTING;
 use rules::Listing;
 use rules::MOST_ARGUMENTS;
+use rules::Part;
 use rules::Predeclared;
 use rules::Rule;
 use rules::RuleAnswer;
@@ -146,10 +147,10 @@ impl Regular {
         CountAnswer::Count(self.arity)
     }
 
-    // The rules that take the type at an argument: its own constructor, and the scalars that its scalar converts to. At or above the
-    // arity, EMPTY itself. Refused 7 for a type code above 180, then as the set is.
-    pub fn arg(self, i: usize, t: u8) -> RegularAnswer
-        ensures { λ r. ⌜ regularPaper r ≡ regularArg i t self ⌝ }
+    // The rules whose type at an argument fits a part of this type: its own constructor, or the scalars that its scalar converts to; the
+    // crate's `arg` is both steps. At or above the arity, EMPTY itself. Refused 7 for a type code above 180, then as the set is.
+    pub fn arg(self, part: Part, i: usize, t: u8) -> RegularAnswer
+        ensures { λ r. ⌜ regularPaper r ≡ regularArg part i t self ⌝ }
     {
         if LAST_CODE < t {
             return RegularAnswer::Refused(Refusal::Unknown(0));
@@ -160,21 +161,31 @@ impl Regular {
         if (self.arity as usize) <= i {
             return RegularAnswer::Set(Regular::EMPTY);
         }
-        RegularAnswer::Set(self.narrow(t))
+        RegularAnswer::Set(self.narrow(part, t))
     }
 
-    // Both masks anded with what a type allows; arity and conclusion are kept, also where nothing is left.
-    pub fn narrow(self, t: u8) -> Regular
-        ensures { λ r. ⌜ setPaper r ≡ setPaper (narrowed t self) ⌝ }
+    // One mask anded with what a type allows: the constructors by its shape, the scalars by its number. The rest is kept, also where
+    // nothing is left.
+    pub fn narrow(self, part: Part, t: u8) -> Regular
+        ensures { λ r. ⌜ setPaper r ≡ setPaper (narrowed part t self) ⌝ }
     {
-        let constructors = self.constructors.meet(ConstructorSet::singleton(t));
-        let scalars = self.scalars.meet(reached_scalars(t));
+        let arity = self.arity;
+        let constructors = self.constructors;
+        let scalars = self.scalars;
         let conclude = self.conclude;
-        Regular {
-            arity: self.arity,
-            constructors: constructors,
-            scalars: scalars,
-            conclude: conclude,
+        match part {
+            Part::Shape => Regular {
+                arity: arity,
+                constructors: constructors.meet(ConstructorSet::singleton(t)),
+                scalars: scalars,
+                conclude: conclude,
+            },
+            Part::Number => Regular {
+                arity: arity,
+                constructors: constructors,
+                scalars: scalars.meet(reached_scalars(t)),
+                conclude: conclude,
+            },
         }
     }
 

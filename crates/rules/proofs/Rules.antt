@@ -1,22 +1,24 @@
--- A rule's record and its meaning: its arguments by index, a test of each of them, and the record that its meaning gives back.
+-- A rule's record and its meaning: its arguments by index, a test of each of them, and the two tests of an argument step.
 -- Assumes nothing.
 use mathlib.Core.Path.{_≡_, refl, sym, ap, _∙_}
 use mathlib.Core.Bool.{Bool, true, false, not}
 use mathlib.Core.List.{List, [], _∷_}
-use Prim.Native.Nat.{ℕ, zero, suc, _/_, _%_, _≤_, _<_, min}
+use Prim.Native.Nat.{ℕ, zero, suc, _/_, _≤_, _<_, min}
 use native.Mathlib.Omega.{arith}
-use lib.Dec.{eqb, leb, ltb}
+use lib.Dec.{eqb, leb}
 use lib.ListN.{length, take, getD, length-take, List·getD-eq-default}
 use lib.Seq.{getD-take}
 use borrow.Author.Tests.{le-leb, lt-leb, leb-true, leb-false, ltb-true, ne-eqb}
 use Rattle.scalars.specs.Paper.{unused}
 use Rattle.scalars.specs.Mask.{choose, both, either, every}
 use Rattle.scalars.specs.Domain.{converts, scalarCount}
-use Rattle.types.specs.Domain.{value?, known?, isAbstract, otherType}
-use Rattle.rules.specs.Signature.{reaches, takesAt, takes, concrete}
+use Rattle.types.specs.Domain.{value?, known?, constructorPart, scalarPart, isAbstract, otherType}
+use Rattle.rules.specs.Signature.{Signature, sameShape, sameNumber, reaches, fitsBy, argumentPasses, fits, takes, concrete}
 use Rattle.rules.proofs.Records.{allConcrete}
 use Rattle.rules.specs.Rule.{argumentsOf, signatureOf, knownRule}
 use Rattle.rules.specs.declared.rule.Rule.{Rule}
+use Rattle.rules.specs.declared.rule.Part.{Part}
+use Rattle.rules.specs.declared.rule.Part.the-variants.{Shape, Number}
 
 module _ {A : Type 0} where
   -- an entry of the first n of a list
@@ -59,20 +61,34 @@ each-concrete n a b c d =
     turn true y = refl
     turn false y = refl
 
--- no operand reaches the mark of an argument that is not there
-reaches-none : (t : ℕ) → reaches t unused ≡ false
-unfolding reaches
-reaches-none t = go (ltb t otherType) refl
+-- no operand fits the mark of an argument that is not there
+fits-none : (part : Part) (t : ℕ) → fitsBy part t unused ≡ false
+fits-none Shape t = go (value? t) refl
   where
-    go : (b : Bool) → ltb t otherType ≡ b → both (both b (eqb (t / scalarCount) 21)) (both b (converts (t % scalarCount) 3)) ≡ false
-    go true e = let l : t < otherType = ltb-true _ _ e in simp (ne-eqb (t / scalarCount) 21 (λ z. absurd (omega arith)))
+    go : (b : Bool) → value? t ≡ b → both b (eqb (constructorPart t) 21) ≡ false
+    go true e = let l : t < otherType = ltb-true _ _ e in ne-eqb (t / scalarCount) 21 (λ z. absurd (omega arith))
     go false e = refl
+fits-none Number t = go (value? t)
+  where
+    go : (b : Bool) → both (both b false) (converts (scalarPart t) 3) ≡ false
+    go true = refl
+    go false = refl
 
--- the argument step's test, by the argument at the index
-takes-at : (i t : ℕ) (az : List ℕ) → takesAt i t az ≡ reaches t (getD az i unused)
-takes-at i t [] = sym (reaches-none t)
-takes-at zero t (a ∷ az) = refl
-takes-at (suc i) t (a ∷ az) = takes-at i t az
+-- a test of the argument at an index, by what is read there
+passes-at : (p : ℕ → Bool) → p unused ≡ false → (i : ℕ) (az : List ℕ) → argumentPasses p i az ≡ p (getD az i unused)
+passes-at p none i [] = sym none
+passes-at p none zero (a ∷ az) = refl
+passes-at p none (suc i) (a ∷ az) = passes-at p none i az
+
+-- the two steps' tests together are document 01's single one
+both-pass : (p q : ℕ → Bool) (i : ℕ) (az : List ℕ) → argumentPasses (λ a. both (p a) (q a)) i az ≡ both (argumentPasses p i az) (argumentPasses q i az)
+both-pass p q i [] = refl
+both-pass p q zero (a ∷ az) = refl
+both-pass p q (suc i) (a ∷ az) = both-pass p q i az
+
+pub takes-both : (i t : ℕ) (s : Signature) → takes i t s ≡ both (fits Shape i t s) (fits Number i t s)
+unfolding reaches
+takes-both i t s = both-pass (sameShape t) (sameNumber t) i (s .arguments)
 
 -- the same of a rule's record
 module _ (r : Rule) where
@@ -103,8 +119,8 @@ module _ (r : Rule) where
   unfolding argumentsOf
   concrete-four = each-concrete (r .count) (r .a0) (r .a1) (r .a2) (r .a3)
 
-  pub takes-argument : (i t : ℕ) → takes i t (signatureOf r) ≡ reaches t (getD (argumentsOf r) i unused)
-  takes-argument i t = takes-at i t (argumentsOf r)
+  pub fits-argument : (part : Part) (i t : ℕ) → fits part i t (signatureOf r) ≡ fitsBy part t (getD (argumentsOf r) i unused)
+  fits-argument part i t = passes-at (fitsBy part t) (fits-none part t) i (argumentsOf r)
 
   pub count-of : length (argumentsOf r) ≡ min (r .count) 4
   unfolding argumentsOf

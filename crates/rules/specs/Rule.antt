@@ -7,7 +7,7 @@ use lib.Dec.{leb}
 use lib.ListN.{length, take, getD}
 use Rattle.scalars.specs.Mask.{choose, both, every}
 use Rattle.types.specs.Domain.{value?, known?}
-use Rattle.rules.specs.Signature.{Signature, typeAt, takes, concrete}
+use Rattle.rules.specs.Signature.{Signature, typeAt, fits, concrete}
 use Rattle.types.specs.Constructor.{constructorOf}
 use Rattle.types.specs.TypeCode.{predeclaredCode, firstModf, firstFrexp}
 use Rattle.scalars.specs.Paper.{Paper, accepted, refusal, whenAccepted, unused}
@@ -52,7 +52,7 @@ checkedRule r =
 
 -- a step's test of a rule
 abbrev pub passes : Keep → Signature → Bool
-passes (Argument i t) s = takes i t s
+passes (Argument part i t) s = fits part i t s
 passes Concrete s = concrete s
 
 -- the result of Frexp or Modf

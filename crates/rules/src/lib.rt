@@ -13,6 +13,7 @@ pub use listing::no_rules;
 pub use listing::no_types;
 pub use rule::Keep;
 pub use rule::MOST_ARGUMENTS;
+pub use rule::Part;
 pub use rule::Predeclared;
 pub use rule::Rule;
 pub use rule::RuleAnswer;

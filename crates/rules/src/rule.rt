@@ -11,7 +11,7 @@ ghost use lib.ListN.{length, getD};
 ghost use Rattle.scalars.specs.Mask.{choose, both, either};
 ghost use Rattle.scalars.specs.Paper.{unused};
 ghost use Rattle.types.specs.Domain.{value?, isAbstract};
-ghost use Rattle.rules.specs.Signature.{reaches, takes, concrete};
+ghost use Rattle.rules.specs.Signature.{sameShape, sameNumber, reaches, fits, concrete};
 ghost use Rattle.types.specs.TypePaper.{codePaper};
 ghost use Rattle.rules.specs.RulePaper.{rulePaper};
 ghost use Rattle.rules.specs.Rule.{argumentsOf, signatureOf, ruleOf, checkedRule, knownRule, predeclaredOf, passes, mostArguments};
@@ -48,9 +48,17 @@ pub enum RuleAnswer {
     Refused(Refusal),
 }
 
-// What a step keeps of a set: the rules that take a type at an index, or those without an abstract argument.
+// The part of an operand's type that an argument step asks about.
+pub enum Part {
+    // The constructor, which must be the argument's.
+    Shape,
+    // The scalar, which must convert to the argument's.
+    Number,
+}
+
+// What a step keeps of a set: the rules whose argument at an index fits a part of a type, or those without an abstract argument.
 pub enum Keep {
-    Argument(usize, u8),
+    Argument(Part, usize, u8),
     Concrete,
 }
 
@@ -131,16 +139,20 @@ impl Rule {
         ensures { λ r. ⌜ r ≡ passes keep (signatureOf self) ⌝ }
     {
         match keep {
-            Keep::Argument(i, t) => self.takes(i, t),
+            Keep::Argument(part, i, t) => self.fits(part, i, t),
             Keep::Concrete => self.concrete(),
         }
     }
 
-    // Whether the rule has an argument at the index, and the type reaches it.
-    fn takes(self, i: usize, t: u8) -> bool
-        ensures { λ r. ⌜ r ≡ takes i t (signatureOf self) ⌝ }
+    // Whether the rule has an argument at the index, and it fits this part of the type.
+    fn fits(self, part: Part, i: usize, t: u8) -> bool
+        ensures { λ r. ⌜ r ≡ fits part i t (signatureOf self) ⌝ }
     {
-        reaches(t, self.argument(i))
+        let a = self.argument(i);
+        match part {
+            Part::Shape => same_shape(t, a),
+            Part::Number => same_number(t, a),
+        }
     }
 
     // The argument at an index; `UNUSED` where there is none.
@@ -188,15 +200,32 @@ impl Rule {
 pub fn reaches(t: u8, a: u8) -> bool
     ensures { λ r. ⌜ r ≡ reaches t a ⌝ }
 {
+    if !same_shape(t, a) {
+        return false;
+    }
+    same_number(t, a)
+}
+
+// Whether an operand's constructor is an argument's; a type code from 156 on has none.
+fn same_shape(t: u8, a: u8) -> bool
+    ensures { λ r. ⌜ r ≡ sameShape t a ⌝ }
+{
+    if VALUES <= t {
+        return false;
+    }
+    t / Scalar::COUNT == a / Scalar::COUNT
+}
+
+// Whether an operand's scalar converts to an argument's; a type code from 156 on has none.
+fn same_number(t: u8, a: u8) -> bool
+    ensures { λ r. ⌜ r ≡ sameNumber t a ⌝ }
+{
     let LeafScalar::Scalar(from) = leaf_scalar(t) else {
         return false;
     };
     let LeafScalar::Scalar(to) = leaf_scalar(a) else {
         return false;
     };
-    if t / Scalar::COUNT != a / Scalar::COUNT {
-        return false;
-    }
     ScalarSet::convertible_from(from).contains(to)
 }
 

@@ -60,6 +60,11 @@ module _ {A : Type 0} where
   filter-all p [] e = refl
   filter-all p (x ∷ xs) e = ap₂ (λ (b : Bool) (ys : List A). consIf b x ys) (both-left (p x) _ e) (filter-all p xs (both-right (p x) _ e))
 
+  -- a test that asks nothing
+  pub filter-true : (xs : List A) → filter (λ x. true) xs ≡ xs
+  filter-true [] = refl
+  filter-true (x ∷ xs) = ap (λ (ys : List A). x ∷ ys) (filter-true xs)
+
   pub filter-none : (p : A → Bool) → ((x : A) → p x ≡ false) → (xs : List A) → filter p xs ≡ []
   filter-none p none [] = refl
   filter-none p none (x ∷ xs) = ap₂ (λ (b : Bool) (ys : List A). consIf b x ys) (none x) (filter-none p none xs)
@@ -71,6 +76,11 @@ module _ {A : Type 0} where
       move : (b : Bool) → consIf b x (filter p xs ++ filter p ys) ≡ consIf b x (filter p xs) ++ filter p ys
       move true = refl
       move false = refl
+
+  -- what holds of every element of two lists holds of both together
+  pub every-append : (p : A → Bool) (xs ys : List A) → every p xs ≡ true → every p ys ≡ true → every p (xs ++ ys) ≡ true
+  every-append p [] ys e f = f
+  every-append p (x ∷ xs) ys e f = both-true (both-left (p x) _ e) (every-append p xs ys (both-right (p x) _ e) f)
 
   -- what holds of every element holds of those that are left
   pub every-filter : (p q : A → Bool) (xs : List A) → every p xs ≡ true → every p (filter q xs) ≡ true

@@ -10,7 +10,7 @@ use Rattle.scalars.specs.Mask.{choose}
 use Rattle.scalars.specs.Refusal.{numbered}
 use Rattle.scalars.specs.Paper.{Paper, accepted, refusal, unused, values, refused, beside, verdictPaper, testPaper, countPaper, scalarPaper, walkPaper, membersPaper}
 use Rattle.scalars.specs.declared.refusal.Refusal.{Refusal}
-use Rattle.scalars.specs.declared.refusal.Refusal.the-variants.{EmptySet, SeveralConstructors, TooMany, NoSuchArgument, WrongCount, NoRuleLeft, Unknown, IllFormed, TooLarge, NoRoom, NothingToCombine, NoConsensus, NoConclusion, UnknownRun, Misplaced}
+use Rattle.scalars.specs.declared.refusal.Refusal.the-variants.{EmptySet, SeveralConstructors, TooMany, NoSuchArgument, WrongCount, WrongShape, Unknown, IllFormed, TooLarge, NoRoom, NothingToCombine, NoConsensus, NoConclusion, UnknownRun, Misplaced, WrongNumber}
 use Rattle.scalars.specs.declared.answer.Verdict.{Verdict}
 use Rattle.scalars.specs.declared.answer.Verdict.the-variants as verdict
 use Rattle.scalars.specs.declared.answer.Test.{Test}
@@ -33,7 +33,7 @@ refusalOf n p =
     (choose (eqb n 3) TooMany
     (choose (eqb n 4) (NoSuchArgument p)
     (choose (eqb n 5) (WrongCount p)
-    (choose (eqb n 6) (NoRuleLeft p)
+    (choose (eqb n 6) (WrongShape p)
     (choose (eqb n 7) (Unknown p)
     (choose (eqb n 8) (IllFormed p)
     (choose (eqb n 9) (TooLarge p)
@@ -42,7 +42,8 @@ refusalOf n p =
     (choose (eqb n 12) (NoConsensus p)
     (choose (eqb n 13) NoConclusion
     (choose (eqb n 14) (UnknownRun p)
-    (Misplaced p))))))))))))))
+    (choose (eqb n 15) (Misplaced p)
+    (WrongNumber p)))))))))))))))
 
 refused-back : (why : Refusal) → refusalOf (numbered why .0) (numbered why .1) ≡ why
 unfolding refusalOf
@@ -51,7 +52,7 @@ refused-back SeveralConstructors = refl
 refused-back TooMany = refl
 refused-back (NoSuchArgument p) = refl
 refused-back (WrongCount p) = refl
-refused-back (NoRuleLeft p) = refl
+refused-back (WrongShape p) = refl
 refused-back (Unknown p) = refl
 refused-back (IllFormed p) = refl
 refused-back (TooLarge p) = refl
@@ -61,6 +62,7 @@ refused-back (NoConsensus p) = refl
 refused-back NoConclusion = refl
 refused-back (UnknownRun p) = refl
 refused-back (Misplaced p) = refl
+refused-back (WrongNumber p) = refl
 
 pub refusal-one : (a b : Refusal) → numbered a .0 ≡ numbered b .0 → numbered a .1 ≡ numbered b .1 → a ≡ b
 refusal-one a b n p = sym (refused-back a) ∙ ap (λ (k : ℕ). refusalOf k (numbered a .1)) n ∙ ap (refusalOf (numbered b .0)) p ∙ refused-back b

@@ -41,6 +41,10 @@ values (refusal n p vs) = vs
 abbrev pub refused : Refusal → List ℕ → Paper
 refused why vs = refusal (numbered why .0) (numbered why .1) vs
 
+-- a refusal by itself has no values
+abbrev pub refusalPaper : Refusal → Paper
+refusalPaper why = refused why []
+
 -- a value, counted from 0
 abbrev pub value : ℕ → Paper → ℕ
 value k p = getD (values p) k unused

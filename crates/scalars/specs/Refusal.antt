@@ -1,7 +1,7 @@
 -- 'Answers by number', and document 02's requests: the number and the place of each refusal.
 use Prim.Native.Nat.{ℕ}
 use Rattle.scalars.specs.declared.refusal.Refusal.{Refusal}
-use Rattle.scalars.specs.declared.refusal.Refusal.the-variants.{EmptySet, SeveralConstructors, TooMany, NoSuchArgument, WrongCount, NoRuleLeft, Unknown, IllFormed, TooLarge, NoRoom, NothingToCombine, NoConsensus, NoConclusion, UnknownRun, Misplaced}
+use Rattle.scalars.specs.declared.refusal.Refusal.the-variants.{EmptySet, SeveralConstructors, TooMany, NoSuchArgument, WrongCount, WrongShape, Unknown, IllFormed, TooLarge, NoRoom, NothingToCombine, NoConsensus, NoConclusion, UnknownRun, Misplaced, WrongNumber}
 
 -- number, and place
 abbrev pub numbered : Refusal → ℕ × ℕ
@@ -10,7 +10,7 @@ numbered SeveralConstructors = (2, 0)
 numbered TooMany = (3, 0)
 numbered (NoSuchArgument p) = (4, p)
 numbered (WrongCount p) = (5, p)
-numbered (NoRuleLeft p) = (6, p)
+numbered (WrongShape p) = (6, p)
 numbered (Unknown p) = (7, p)
 numbered (IllFormed p) = (8, p)
 numbered (TooLarge p) = (9, p)
@@ -20,3 +20,4 @@ numbered (NoConsensus p) = (12, p)
 numbered NoConclusion = (13, 0)
 numbered (UnknownRun p) = (14, p)
 numbered (Misplaced p) = (15, p)
+numbered (WrongNumber p) = (16, p)

@@ -17,8 +17,8 @@ pub enum Refusal {
     NoSuchArgument(usize),
     // 5: a number of arguments that no rule takes.
     WrongCount(usize),
-    // 6: no rule is left after this argument.
-    NoRuleLeft(usize),
+    // 6: in a call, no rule is left with this argument's shape.
+    WrongShape(usize),
     // 7: an unknown function, type code or set bit.
     Unknown(usize),
     // 8: an expression cut short, an unknown tag, or bytes left over.
@@ -37,10 +37,12 @@ pub enum Refusal {
     UnknownRun(usize),
     // 15: in a text, a token that is misplaced or missing, or a text that is too long.
     Misplaced(usize),
+    // 16: in a call, rules are left with this argument's shape, and none with a number type that its own converts to.
+    WrongNumber(usize),
 }
 
 impl Refusal {
-    // The refusal's number, 1 to 15.
+    // The refusal's number, 1 to 16.
     pub fn number(self) -> u8
         ensures { λ r. ⌜ r ≡ numbered self .0 ⌝ }
     {
@@ -50,7 +52,7 @@ impl Refusal {
             Refusal::TooMany => 3,
             Refusal::NoSuchArgument(_) => 4,
             Refusal::WrongCount(_) => 5,
-            Refusal::NoRuleLeft(_) => 6,
+            Refusal::WrongShape(_) => 6,
             Refusal::Unknown(_) => 7,
             Refusal::IllFormed(_) => 8,
             Refusal::TooLarge(_) => 9,
@@ -60,6 +62,7 @@ impl Refusal {
             Refusal::NoConclusion => 13,
             Refusal::UnknownRun(_) => 14,
             Refusal::Misplaced(_) => 15,
+            Refusal::WrongNumber(_) => 16,
         }
     }
 
@@ -73,7 +76,7 @@ impl Refusal {
             Refusal::TooMany => 0,
             Refusal::NoSuchArgument(at) => at,
             Refusal::WrongCount(at) => at,
-            Refusal::NoRuleLeft(at) => at,
+            Refusal::WrongShape(at) => at,
             Refusal::Unknown(at) => at,
             Refusal::IllFormed(at) => at,
             Refusal::TooLarge(at) => at,
@@ -83,6 +86,7 @@ impl Refusal {
             Refusal::NoConclusion => 0,
             Refusal::UnknownRun(at) => at,
             Refusal::Misplaced(at) => at,
+            Refusal::WrongNumber(at) => at,
         }
     }
 }

@@ -14,6 +14,7 @@ use Rattle.rules.specs.Signature.{Signature}
 use Rattle.rules.specs.Rule.{ruleOf}
 use Rattle.rules.specs.RulePaper.{ruleValues}
 use Rattle.rules.specs.Verdict.{onVerdict, emptyOf}
+use Rattle.rules.specs.declared.rule.Part.the-variants.{Shape, Number}
 use Rattle.rules.specs.declared.rule.Keep.{Keep}
 use Rattle.rules.specs.declared.rule.Keep.the-variants.{Argument, Concrete}
 use Rattle.regular.specs.Regular.{regularRules, regularEmpty, regularPreferred}
@@ -25,19 +26,21 @@ use Rattle.regular.proofs.Regulars.{known-accepted}
 use Rattle.theorems.proofs.ChosenPapers.{list-one}
 use Rattle.theorems.specs.Steps.{stepRegular}
 use Rattle.theorems.proofs.SetSteps.{knownStep}
-use Rattle.theorems.proofs.Preferred.{OneShape, argument-one, step-one}
+use Rattle.theorems.proofs.Preferred.{OneShape, shape-one, step-one}
 use Rattle.theorems.proofs.Alike.{Alike, alike-first, alike-step, same-listing, same-preferred}
 use Rattle.lists.proofs.Expansions.{expands}
 use Rattle.theorems.specs.Operations.{regular, list, refused, listAnswer, InTurn}
-use Rattle.theorems.specs.Agreement.{someArgument, Agreed, Agrees, Theorem}
+use Rattle.theorems.specs.Agreement.{someShape, Agreed, Agrees, Theorem}
 use Rattle.theorems.proofs.Operations.{leaves, regular-left, list-left}
 
--- an argument's step is among those to come, or one has left one constructor
+-- a step by shape is among those to come, or one has left one constructor
 abbrev Shaped : L.List Keep → Regular → Type 0
-Shaped ks r = (someArgument ks ≡ true) ⊎ OneShape r
+Shaped ks r = (someShape ks ≡ true) ⊎ OneShape r
 
 shaped-step : (k : Keep) (ks : L.List Keep) (r : Regular) → Shaped (k ∷ ks) r → Shaped ks (stepRegular k r)
-shaped-step (Argument i t) ks r h = inr (argument-one i t r)
+shaped-step (Argument Shape i t) ks r h = inr (shape-one i t r)
+shaped-step (Argument Number i t) ks r (inl e) = inl e
+shaped-step (Argument Number i t) ks r (inr o) = inr (step-one (Argument Number i t) r o)
 shaped-step Concrete ks r (inl e) = inl e
 shaped-step Concrete ks r (inr o) = inr (step-one Concrete r o)
 
@@ -47,7 +50,7 @@ some-left [] e = let z : _≡_ {A = ℕ} 1 0 = cc in absurd (omega arith)
 some-left (s ∷ rest) e = (s, rest, refl)
 
 module _ (steps : L.List Keep) where
-  agreed : (l : List) (r : Regular) → Alike l r → (someArgument steps ≡ true → OneShape r) → Agreed steps (list l) (regular r)
+  agreed : (l : List) (r : Regular) → Alike l r → (someShape steps ≡ true → OneShape r) → Agreed steps (list l) (regular r)
   unfolding regularEmpty
   agreed l r a shape =
       record {
@@ -55,7 +58,7 @@ module _ (steps : L.List Keep) where
         preferred = λ some (t, e, f) p q (x, g, h) (y, u, v). go some (f ∙ e) p q (h ∙ g) (v ∙ u);
       }
     where
-      go : someArgument steps ≡ true → accepted (0 ∷ []) ≡ regularEmpty r → (p q : Paper) → p ≡ listPreferred l → q ≡ regularPreferred r
+      go : someShape steps ≡ true → accepted (0 ∷ []) ≡ regularEmpty r → (p q : Paper) → p ≡ listPreferred l → q ≡ regularPreferred r
           → (i : ℕ) × (vs : L.List ℕ) × (p ≡ accepted (i ∷ vs)) × (q ≡ accepted vs)
       go some none p q e f =
           let (s, rest, w) = some-left (regularRules r)
@@ -63,7 +66,7 @@ module _ (steps : L.List Keep) where
           let (i, x, y) = same-preferred l r a (shape some) s rest w in
           (i, ruleValues (ruleOf s), e ∙ x, f ∙ y)
 
-  agree : (ks : L.List Keep) (l : List) (r : Regular) → Alike l r → (someArgument steps ≡ true → Shaped ks r)
+  agree : (ks : L.List Keep) (l : List) (r : Regular) → Alike l r → (someShape steps ≡ true → Shaped ks r)
       → Agrees steps (leaves list kept ks l) (leaves regular stepRegular ks r)
   agree [] l r a shape = agreed l r a (λ e. none (shape e))
     where

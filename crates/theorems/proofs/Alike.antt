@@ -1,5 +1,5 @@
 -- Agreement, of the sets that steps leave. Take a Regular set that expands, and its List. A step, at any index and of any type, leaves sets
--- that list the same rules in the same order; their listings are answered alike. Where one of the steps was an argument's and rules remain,
+-- that list the same rules in the same order; their listings are answered alike. Where one of the steps was by an argument's shape and rules remain,
 -- the preferred rules of the two are equal. Assumes nothing.
 use mathlib.Core.Path.{_≡_, sym, ap, _∙_}
 use mathlib.Core.Bool.{true}
@@ -38,13 +38,14 @@ rules-after = listed-after Lasting regularRules stepRegular step-lasting step-ru
 -- ---- the answer to a step is the List of the members that it keeps; to a number that is no type, refusal 7
 
 abbrev pub askList : Keep → List → Paper
-askList (Argument i t) l = listArg i t l
+askList (Argument part i t) l = listArg part i t l
 askList Concrete l = listStep Concrete l
 
 pub asked-list : (k : Keep) (l : List) → Tested l → askList k l ≡ choose (knownStep k) (acceptedList (kept k l)) (refusal 7 0 noListValues)
 unfolding listArg
 asked-list Concrete l t = step-answer Concrete l t
-asked-list (Argument i u) l t = ap (λ (p : Paper). choose (knownStep (Argument i u)) p (refusal 7 0 noListValues)) (step-answer (Argument i u) l t)
+asked-list (Argument part i u) l t =
+    ap (λ (p : Paper). choose (knownStep (Argument part i u)) p (refusal 7 0 noListValues)) (step-answer (Argument part i u) l t)
 
 -- ---- both sets are accepted, and list the same rules
 

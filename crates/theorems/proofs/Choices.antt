@@ -1,7 +1,7 @@
 -- The rule that a call's steps choose is the first of its listing that takes the operands; where they choose none, what they answer
 -- is what is wrong. For a listing of one rule length, with the concrete-only switch on or off.
 -- Assumes nothing.
-use mathlib.Core.Path.{_≡_, refl, sym, ap, _∙_}
+use mathlib.Core.Path.{_≡_, refl, sym, ap, _∙_, subst}
 use mathlib.Core.Bool.{Bool, true, false, true≢false, false≢true}
 use mathlib.Core.List.{List, [], _∷_}
 use mathlib.Core.Option.{some}
@@ -11,15 +11,17 @@ use lib.Dec.{ltb}
 use lib.ListN.{length, getD, take, length-take, getElem?}
 use lib.Seq.{getD-take}
 use borrow.Author.Tests.{ltb-true, ltb-false}
-use Rattle.scalars.specs.Mask.{choose, either, consIf}
-use Rattle.rules.specs.Signature.{Signature, reaches, takesAt, takes, concrete}
+use Rattle.scalars.specs.Mask.{choose, both, either, consIf}
+use Rattle.rules.specs.Signature.{Signature, sameShape, reaches, argumentPasses, fits, takes, concrete}
+use Rattle.rules.specs.declared.rule.Part.{Part}
+use Rattle.rules.specs.declared.rule.Part.the-variants.{Shape, Number}
 use Rattle.lists.specs.Entry.{Entry, number, keep}
 use Rattle.calls.specs.Choice.{Narrowed, left, emptied, narrow, wrongCount, first, concreteStep, afterOperands, resolve}
 use Rattle.rules.specs.Verdict.{longest}
-use Rattle.theorems.specs.Taking.{Takes, NoRule, Best, OneLength, LeftAfter, Says}
+use Rattle.theorems.specs.Taking.{Takes, NoRule, Best, OneLength, LeftAfter, ShapeLeft, NoneBy, Says}
 use Rattle.scalars.proofs.Filters.{both-left, both-right, both-true}
-use Rattle.calls.proofs.Firsts.{IsFirst, first-is}
-use Rattle.calls.proofs.Narrowing.{takesFrom, permits, passesAll, Some, Narrows, narrow-narrows}
+use Rattle.calls.proofs.Firsts.{keep-keep, IsFirst, first-is}
+use Rattle.calls.proofs.Narrowing.{takesFrom, permits, passesAll, Some, Stopped, Narrows, narrow-narrows}
 use Rattle.calls.proofs.Surviving.{left-is}
 
 -- where nothing is left, no rule of the listing passes
@@ -37,23 +39,24 @@ none-passes q (x ∷ xs) i e (suc j) r h = none-passes q xs (suc i) (go (q x) e)
     go true e′ = cc
     go false e′ = e′
 
--- the argument steps are a test of each argument
-takes-at : (k t : ℕ) (az : List ℕ) → takesAt k t az ≡ true → (k < length az) × (reaches t (getD az k 0) ≡ true)
-takes-at k t [] e = absurd (false≢true e)
-takes-at zero t (a ∷ az) e = (omega arith, e)
-takes-at (suc k) t (a ∷ az) e = let h = takes-at k t az e in (omega arith, h .1)
+-- a step's test is a test of the argument at an index
+module _ (p : ℕ → Bool) where
+  passes-at : (k : ℕ) (az : List ℕ) → argumentPasses p k az ≡ true → (k < length az) × (p (getD az k 0) ≡ true)
+  passes-at k [] e = absurd (false≢true e)
+  passes-at zero (a ∷ az) e = (omega arith, e)
+  passes-at (suc k) (a ∷ az) e = let h = passes-at k az e in (omega arith, h .1)
 
-at-takes : (k t : ℕ) (az : List ℕ) → k < length az → reaches t (getD az k 0) ≡ true → takesAt k t az ≡ true
-at-takes k t [] h e = absurd (omega arith)
-at-takes zero t (a ∷ az) h e = e
-at-takes (suc k) t (a ∷ az) h e = at-takes k t az (omega arith) e
+  at-passes : (k : ℕ) (az : List ℕ) → k < length az → p (getD az k 0) ≡ true → argumentPasses p k az ≡ true
+  at-passes k [] h e = absurd (omega arith)
+  at-passes zero (a ∷ az) h e = e
+  at-passes (suc k) (a ∷ az) h e = at-passes k az (omega arith) e
 
 reached-from : (ts : List ℕ) (k : ℕ) (r : Signature) → takesFrom k ts r ≡ true → (j : ℕ) → j < length ts
     → (k + j < length (r .arguments)) × (reaches (getD ts j 0) (getD (r .arguments) (k + j) 0) ≡ true)
 reached-from [] k r e j h = absurd (omega arith)
 reached-from (t ∷ ts) k r e zero h =
     let z : k + 0 ≡ k = omega arith in
-    rw z (takes-at k t (r .arguments) (both-left (takes k t r) (takesFrom (suc k) ts r) e))
+    rw z (passes-at (reaches t) k (r .arguments) (both-left (takes k t r) (takesFrom (suc k) ts r) e))
 reached-from (t ∷ ts) k r e (suc j) h =
     let z : k + suc j ≡ suc k + j = omega arith in
     rw z (reached-from ts (suc k) r (both-right (takes k t r) (takesFrom (suc k) ts r) e) j (omega arith))
@@ -63,7 +66,7 @@ from-reached : (ts : List ℕ) (k : ℕ) (r : Signature) → k + length ts ≤ l
 from-reached [] k r l h = refl
 from-reached (t ∷ ts) k r l h =
     let z : k + 0 ≡ k = omega arith in
-    both-true (at-takes k t (r .arguments) (omega arith) (rw z at (h 0 (omega arith))))
+    both-true (at-passes (reaches t) k (r .arguments) (omega arith) (rw z at (h 0 (omega arith))))
     (from-reached ts (suc k) r (omega arith)
     (λ j lt. let z′ : k + suc j ≡ suc k + j = omega arith in rw z′ at (h (suc j) (omega arith))))
 
@@ -117,6 +120,45 @@ module _ (rules : List Signature) (ts : List ℕ) (k : ℕ) (h : k < length ts) 
       (λ j lt. let lt′ : j < suc k = omega arith in rw (plain, getD-take (suc k) ts j 0 lt′) (w .reached j (omega arith))))
       ∙ none-passes (takesFrom 0 (take (suc k) ts)) rules 0 e (w .index) (w .rule) (w .there))
 
+  -- the test of those before it, and of its shape, is `ShapeLeft`
+  abbrev before : Signature → Bool
+  before = takesFrom 0 (take k ts)
+
+  abbrev shaped : List Entry
+  shaped = keep (fits Shape k (getD ts k 0)) (keep before (number 0 rules))
+
+  as-one : shaped ≡ keep (λ r. both (before r) (fits Shape k (getD ts k 0) r)) (number 0 rules)
+  as-one = keep-keep before (fits Shape k (getD ts k 0)) (number 0 rules)
+
+  shape-left : Some shaped → ShapeLeft rules ts k
+  shape-left s =
+      let f = first-is (λ r. both (before r) (fits Shape k (getD ts k 0) r)) rules (s .0) (s .1) (ap first (sym as-one) ∙ s .2) in
+      let l : length (take k ts) ≡ k = length-take k ts ∙ omega arith in
+      let g = reached-from (take k ts) 0 (s .1) (both-left (before (s .1)) _ (f .passes)) in
+      let (long, shape) = passes-at (sameShape (getD ts k 0)) k (s .1 .arguments) (both-right (before (s .1)) _ (f .passes)) in
+      record {
+        index = s .0;
+        rule = s .1;
+        there = f .there;
+        long = long;
+        reached = λ j lt. rw (plain, getD-take k ts j 0 lt) at (g j (omega arith) .1);
+        shape = shape;
+      }
+
+  no-shape-left : shaped ≡ [] → ShapeLeft rules ts k → ⊥
+  no-shape-left e w =
+      let l : length (take k ts) ≡ k = length-take k ts ∙ omega arith in
+      let n = w .long in
+      true≢false (sym (both-true
+      (from-reached (take k ts) 0 (w .rule) (omega arith)
+      (λ j lt. let lt′ : j < k = omega arith in rw (plain, getD-take k ts j 0 lt′) (w .reached j lt′)))
+      (at-passes (sameShape (getD ts k 0)) k (w .rule .arguments) (w .long) (w .shape)))
+      ∙ none-passes (λ r. both (before r) (fits Shape k (getD ts k 0) r)) rules 0 (sym as-one ∙ e) (w .index) (w .rule) (w .there))
+
+  stopped-by : (part : Part) → Stopped part ts 0 (number 0 rules) k k → NoneBy part rules ts k
+  stopped-by Shape e = no-shape-left e
+  stopped-by Number e = (shape-left (e .0), none-left (e .1))
+
 -- what the steps answer
 module _ (switch : Bool) (rules : List Signature) (ts : List ℕ) (one : OneLength rules) where
   no-rule : keep (passesAll switch ts) (number 0 rules) ≡ [] → NoRule switch rules ts
@@ -141,10 +183,15 @@ module _ (switch : Bool) (rules : List Signature) (ts : List ℕ) (one : OneLeng
   narrowed-says l (left s) h =
       first-says l (λ j lt. some-left rules ts j lt (h .1 j lt)) (concreteStep switch s)
       (left-is switch rules ts s (h .0))
-  narrowed-says l (emptied k) h =
-      let m : k ≡ h .0 = h .1 ∙ plain (h .0) in
-      let lt : h .0 < length ts = h .2 in
-      rw m (record { counted = l; there = lt; before = λ j lt′. some-left rules ts j (omega arith) (h .4 j lt′); none = none-left rules ts (h .0) lt (h .3) })
+  narrowed-says l (emptied part k) (m, e, lt, stopped, lasts) =
+      let z : m ≡ k = sym (e ∙ plain m) in
+      let lt′ : k < length ts = omega arith in
+      record {
+        counted = l;
+        there = lt′;
+        before = λ j b. some-left rules ts j (omega arith) (lasts j (omega arith));
+        none = stopped-by rules ts k lt′ part (subst (Stopped part ts 0 (number 0 rules) k) z stopped);
+      }
 
   pub resolve-says : Says switch rules ts (resolve switch rules ts)
   unfolding resolve

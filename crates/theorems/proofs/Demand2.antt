@@ -9,17 +9,20 @@ use native.Mathlib.Omega.{arith}
 use lib.Dec.{ltb}
 use lib.ListN.{length, getD, getElem?}
 use borrow.Author.Tests.{ltb-true, ltb-false}
-use Rattle.rules.specs.Signature.{Signature, reaches}
+use Rattle.rules.specs.Signature.{Signature, sameShape, reaches}
+use Rattle.rules.specs.declared.rule.Part.{Part}
+use Rattle.rules.specs.declared.rule.Part.the-variants.{Shape, Number}
 use Rattle.scalars.specs.Mask.{select}
 use Rattle.lists.specs.Entry.{number}
 use Rattle.calls.specs.Choice.{first, Choice, chosen, wrongCount, noneAfter, noneConcrete, resolve}
 use Rattle.rules.specs.Verdict.{longest}
-use Rattle.theorems.specs.Taking.{Takes, Taken, NoRule, Best, OneLength, LeftAfter, Emptied, bit, Survive, Says}
+use Rattle.theorems.specs.Taking.{Takes, Taken, NoRule, Best, OneLength, LeftAfter, ShapeLeft, NoneBy, Emptied, bit, Survive, Says}
 use Rattle.calls.specs.Call.{survivorsOf}
 use Rattle.scalars.specs.Paper as paper
 use Rattle.theorems.specs.Demand2.{Demand2, Theorem}
 use Rattle.functions.specs.Functions.{listingOf}
 use Rattle.functions.proofs.Database.{one-length}
+use Rattle.scalars.proofs.Filters.{both-left}
 use Rattle.theorems.proofs.Operands.{matches-no-rule}
 use Rattle.theorems.proofs.SurvivorBits.{survivor-bit}
 use Rattle.theorems.proofs.Choices.{passes-takes, takes-passes, resolve-says}
@@ -29,7 +32,7 @@ module _ (switch : Bool) (rules : List Signature) (ts : List ℕ) (one : OneLeng
   -- ---- what is said of a call is said of one choice alone
 
   -- a rule that takes all operands takes those up to k
-  left-after : (i : ℕ) (r : Signature) → getElem? rules i ≡ some r → Takes switch ts r → (k : ℕ) → k < length ts → LeftAfter rules ts k
+  pub left-after : (i : ℕ) (r : Signature) → getElem? rules i ≡ some r → Takes switch ts r → (k : ℕ) → k < length ts → LeftAfter rules ts k
   left-after i r h t k l =
       let m : length ts ≡ length (r .arguments) = t .many in
       record { index = i; rule = r; there = h; long = omega arith; reached = λ j b. t .reached j (omega arith) }
@@ -49,13 +52,38 @@ module _ (switch : Bool) (rules : List Signature) (ts : List ℕ) (one : OneLeng
           let g : some r ≡ some s = sym (a .there) ∙ ap (λ (k : ℕ). getElem? rules k) z ∙ b .there in
           cc
 
-  same-operand : (j k : ℕ) → Emptied rules ts j → Emptied rules ts k → noneAfter j ≡ noneAfter k
-  same-operand j k a b = go (ltb j k) (ltb k j) refl refl
+  -- a rule that takes the operands up to k has k's shape there, so either part that leaves none leaves no such rule
+  has-shape : (k : ℕ) → LeftAfter rules ts k → ShapeLeft rules ts k
+  unfolding reaches
+  has-shape k w = record {
+    index = w .index;
+    rule = w .rule;
+    there = w .there;
+    long = w .long;
+    reached = λ j lt. w .reached j (omega arith);
+    shape = both-left (sameShape (getD ts k 0) (getD (w .rule .arguments) k 0)) _ (w .reached k (omega arith));
+  }
+
+  pub none-after : (part : Part) (k : ℕ) → NoneBy part rules ts k → LeftAfter rules ts k → ⊥
+  none-after Shape k n w = n (has-shape k w)
+  none-after Number k n w = n .1 w
+
+  -- of one operand one part alone leaves none
+  same-part : (part other : Part) (k : ℕ) → NoneBy part rules ts k → NoneBy other rules ts k → noneAfter part k ≡ noneAfter other k
+  same-part Shape Shape k m n = refl
+  same-part Shape Number k m n = absurd (m (n .0))
+  same-part Number Shape k m n = absurd (n (m .0))
+  same-part Number Number k m n = refl
+
+  same-operand : (part other : Part) (j k : ℕ) → Emptied part rules ts j → Emptied other rules ts k → noneAfter part j ≡ noneAfter other k
+  same-operand part other j k a b = go (ltb j k) (ltb k j) refl refl
     where
-      go : (x y : Bool) → ltb j k ≡ x → ltb k j ≡ y → noneAfter j ≡ noneAfter k
-      go true y e f = absurd (a .none (b .before j (ltb-true j k e)))
-      go false true e f = absurd (b .none (a .before k (ltb-true k j f)))
-      go false false e f = let z : j ≡ k = omega (arith, ltb-false j k e, ltb-false k j f) in ap noneAfter z
+      go : (x y : Bool) → ltb j k ≡ x → ltb k j ≡ y → noneAfter part j ≡ noneAfter other k
+      go true y e f = absurd (none-after part j (a .none) (b .before j (ltb-true j k e)))
+      go false true e f = absurd (none-after other k (b .none) (a .before k (ltb-true k j f)))
+      go false false e f =
+          let z : j ≡ k = omega (arith, ltb-false j k e, ltb-false k j f) in
+          ap (noneAfter part) z ∙ same-part part other k (subst (NoneBy part rules ts) z (a .none)) (b .none)
 
   no-best : (i : ℕ) (r : Signature) → Best switch rules ts i r → NoRule switch rules ts → ⊥
   unfolding NoRule
@@ -64,19 +92,19 @@ module _ (switch : Bool) (rules : List Signature) (ts : List ℕ) (one : OneLeng
   says-one : (c d : Choice) → Says switch rules ts c → Says switch rules ts d → c ≡ d
   says-one (chosen i r) (chosen j s) a b = same-best i j r s a b
   says-one (chosen i r) wrongCount a b = absurd (b (counted i r (a .there) (a .taken)))
-  says-one (chosen i r) (noneAfter k) a b = absurd (b .none (left-after i r (a .there) (a .taken) k (b .there)))
+  says-one (chosen i r) (noneAfter part k) a b = absurd (none-after part k (b .none) (left-after i r (a .there) (a .taken) k (b .there)))
   says-one (chosen i r) noneConcrete a b = absurd (no-best i r a (b .none))
   says-one wrongCount (chosen j s) a b = absurd (a (counted j s (b .there) (b .taken)))
   says-one wrongCount wrongCount a b = refl
-  says-one wrongCount (noneAfter k) a b = absurd (a (b .counted))
+  says-one wrongCount (noneAfter part k) a b = absurd (a (b .counted))
   says-one wrongCount noneConcrete a b = absurd (a (b .counted))
-  says-one (noneAfter k) (chosen j s) a b = absurd (a .none (left-after j s (b .there) (b .taken) k (a .there)))
-  says-one (noneAfter k) wrongCount a b = absurd (b (a .counted))
-  says-one (noneAfter j) (noneAfter k) a b = same-operand j k a b
-  says-one (noneAfter k) noneConcrete a b = absurd (a .none (b .after k (a .there)))
+  says-one (noneAfter part k) (chosen j s) a b = absurd (none-after part k (a .none) (left-after j s (b .there) (b .taken) k (a .there)))
+  says-one (noneAfter part k) wrongCount a b = absurd (b (a .counted))
+  says-one (noneAfter part j) (noneAfter other k) a b = same-operand part other j k a b
+  says-one (noneAfter part k) noneConcrete a b = absurd (none-after part k (a .none) (b .after k (a .there)))
   says-one noneConcrete (chosen j s) a b = absurd (no-best j s b (a .none))
   says-one noneConcrete wrongCount a b = absurd (b (a .counted))
-  says-one noneConcrete (noneAfter k) a b = absurd (b .none (a .after k (b .there)))
+  says-one noneConcrete (noneAfter part k) a b = absurd (none-after part k (b .none) (a .after k (b .there)))
   says-one noneConcrete noneConcrete a b = refl
 
   -- ---- exactly
@@ -96,7 +124,7 @@ module _ (switch : Bool) (rules : List Signature) (ts : List ℕ) (one : OneLeng
       go : (c : Choice) → resolve switch rules ts ≡ c → Says switch rules ts c → (i : ℕ) × (r : Signature) × (resolve switch rules ts ≡ chosen i r)
       go (chosen i r) e s = (i, r, e)
       go wrongCount e s = absurd (s (counted (t .index) (t .rule) (t .there) (t .takes)))
-      go (noneAfter k) e s = absurd (s .none (left-after (t .index) (t .rule) (t .there) (t .takes) k (s .there)))
+      go (noneAfter part k) e s = absurd (none-after part k (s .none) (left-after (t .index) (t .rule) (t .there) (t .takes) k (s .there)))
       go noneConcrete e s = absurd (s .none (t .index) (t .rule) (t .there) (t .takes))
 
   -- ---- the survivors

@@ -5,31 +5,36 @@
 use mathlib.Core.Path.{_≡_, refl, ap, _∙_}
 use mathlib.Core.Bool.{Bool}
 use mathlib.Core.List.{List}
-use Prim.Native.Nat.{ℕ, _<_}
-use native.Mathlib.Omega.{arith}
-use lib.ListN.{length}
+use Prim.Native.Nat.{ℕ}
 use Rattle.rules.specs.Signature.{Signature}
+use Rattle.rules.specs.declared.rule.Part.{Part}
+use Rattle.rules.specs.declared.rule.Part.the-variants.{Shape, Number}
 use Rattle.calls.specs.Choice.{Choice, chosen, wrongCount, noneAfter, noneConcrete, resolve}
-use Rattle.theorems.specs.Taking.{NoRule, Best, OneLength, Says}
+use Rattle.theorems.specs.Taking.{NoRule, Best, OneLength, Emptied, Says}
 use Rattle.theorems.proofs.Choices.{resolve-says}
-use Rattle.theorems.proofs.Demand2.{exactly}
+use Rattle.theorems.proofs.Demand2.{left-after, none-after, exactly}
 use Rattle.expressions.specs.Tree.{Tree, Trees, leaf, call, none, more}
 use Rattle.machine.specs.Line.{Line}
 use Rattle.worksheet.specs.Places.{inside, behind, starts}
 use Rattle.worksheet.proofs.Typings.{before, concludeCall}
 use Rattle.worksheet.specs.Typer.{Typed, typed, refused, conclude, typeOf, typeAll}
 use Rattle.theorems.specs.Meaning.{Gives, leafGives, callGives, GiveAll, noneGive, moreGive, Stuck, atArgument, atCall, StuckAmong, firstStuck, laterStuck}
-use Rattle.theorems.specs.Fault.{Fault, wrongNumber, noneLeft, noneTakes, Fails, failsInside, failsHere, FailsAmong, failsFirst, failsLater}
+use Rattle.theorems.specs.Fault.{Fault, miscounted, wrongShape, wrongNumber, noneTakes, Fails, failsInside, failsHere, FailsAmong, failsFirst, failsLater}
+
+-- where an operand leaves no rule, by either part, no rule takes the operands
+operand-no-rule : (switch : Bool) (rules : List Signature) (ts : List ℕ) → OneLength rules → (part : Part) {k : ℕ}
+    → Emptied part rules ts k → NoRule switch rules ts
+unfolding NoRule
+operand-no-rule switch rules ts one part {k} e i r h t =
+    none-after switch rules ts one part k (e .none) (left-after switch rules ts one i r h t k (e .there))
 
 -- where a call is at fault, no rule takes its operands
 fault-no-rule : (switch : Bool) (rules : List Signature) (ts : List ℕ) (at : ℕ) (places : List ℕ) → OneLength rules
     → {n p : ℕ} → Fault switch rules ts at places n p → NoRule switch rules ts
 unfolding NoRule OneLength
-fault-no-rule switch rules ts at places one (wrongNumber n) = λ i r h t. n (t .many ∙ one i r h)
-fault-no-rule switch rules ts at places one (noneLeft {k} e) = λ i r h t.
-    let n : length ts ≡ length (r .arguments) = t .many in
-    let l : k < length ts = e .there in
-    e .none (record { index = i; rule = r; there = h; long = omega arith; reached = λ j le. t .reached j (omega arith) })
+fault-no-rule switch rules ts at places one (miscounted n) = λ i r h t. n (t .many ∙ one i r h)
+fault-no-rule switch rules ts at places one (wrongShape e) = operand-no-rule switch rules ts one Shape e
+fault-no-rule switch rules ts at places one (wrongNumber e) = operand-no-rule switch rules ts one Number e
 fault-no-rule switch rules ts at places one (noneTakes d) = d .none
 
 module _ (listingOf : ℕ → List Signature) (switch : Bool) where
@@ -51,8 +56,9 @@ module _ (listingOf : ℕ → List Signature) (switch : Bool) where
   conclude-means : (f at : ℕ) (es : Trees) (ts : List ℕ) (ls : List Line) → GiveAll listingOf switch es ts ls → (c : Choice)
       → Says switch (listingOf f) ts c → Means (call f es) at (conclude f at (starts es (inside at)) ts ls c)
   conclude-means f at es ts ls g (chosen i r) s = callGives g s
-  conclude-means f at es ts ls g wrongCount s = failsHere g (wrongNumber s)
-  conclude-means f at es ts ls g (noneAfter k) s = failsHere g (noneLeft s)
+  conclude-means f at es ts ls g wrongCount s = failsHere g (miscounted s)
+  conclude-means f at es ts ls g (noneAfter Shape k) s = failsHere g (wrongShape s)
+  conclude-means f at es ts ls g (noneAfter Number k) s = failsHere g (wrongNumber s)
   conclude-means f at es ts ls g noneConcrete s = failsHere g (noneTakes s)
 
   -- what is said of a call concludes it: a best rule, or a fault
@@ -63,8 +69,9 @@ module _ (listingOf : ℕ → List Signature) (switch : Bool) where
 
     conclude-fault : {n p : ℕ} → Fault switch (listingOf f) ts at places n p
         → conclude f at places ts ls (resolve switch (listingOf f) ts) ≡ refused n p
-    conclude-fault (wrongNumber s) = concluded wrongCount s
-    conclude-fault (noneLeft {k} s) = concluded (noneAfter k) s
+    conclude-fault (miscounted s) = concluded wrongCount s
+    conclude-fault (wrongShape {k} s) = concluded (noneAfter Shape k) s
+    conclude-fault (wrongNumber {k} s) = concluded (noneAfter Number k) s
     conclude-fault (noneTakes s) = concluded noneConcrete s
 
   module _ (one : (f : ℕ) → OneLength (listingOf f)) where

@@ -16,13 +16,14 @@ use Rattle.scalars.specs.declared.answer.Test.{Test}
 use Rattle.scalars.specs.declared.answer.Test.the-variants as test
 use Rattle.scalars.specs.declared.answer.CountAnswer.the-variants as count
 use Rattle.scalars.specs.declared.refusal.Refusal.the-variants.{EmptySet}
-use Rattle.rules.specs.Signature.{Signature, takes}
+use Rattle.rules.specs.Signature.{Signature, fits, takes}
 use Rattle.rules.specs.Rule.{ruleOf, passes}
 use Rattle.rules.proofs.Records.{typed?}
 use Rattle.rules.specs.RulePaper.{ruleValues, noRule, rulePaper}
 use Rattle.rules.specs.Verdict.{onVerdict, longest, countOf, emptyOf}
 use Rattle.rules.specs.declared.rule.RuleAnswer.{RuleAnswer}
 use Rattle.rules.specs.declared.rule.RuleAnswer.the-variants as rule
+use Rattle.rules.specs.declared.rule.Part.the-variants.{Shape, Number}
 use Rattle.rules.specs.declared.rule.Keep.{Keep}
 use Rattle.rules.specs.declared.rule.Keep.the-variants.{Argument}
 use Rattle.regular.specs.Regular.{pairs, codesOf, signatureFor, regularRules, allConclude, preferredAmong, regularPreferred, regularCount, regularEmpty}
@@ -56,10 +57,10 @@ use Rattle.theorems.proofs.ListSteps.{entries-rules, Tested, accepted-o
 use Rattle.lists.proofs.Steps.{entries-kept}
 use Rattle.theorems.specs.Steps.{stepRegular}
 use Rattle.theorems.proofs.SetSteps.{knownStep, step-known, step-concludes}
-use Rattle.theorems.proofs.Preferred.{OneShape, argument-one, step-one, regular-first}
+use Rattle.theorems.proofs.Preferred.{OneShape, shape-one, step-one, regular-first}
 use Rattle.theorems.proofs.Alike.{rules-after}
 use Rattle.calls.proofs.Firsts.{keep-keep, keep-every}
-use Rattle.calls.proofs.Narrowing.{takesFrom, permits, passesAll}
+use Rattle.calls.proofs.Narrowing.{takesFrom, permits, passesAll, keep-pair}
 use Rattle.calls.proofs.ListResolving.{full-entries}
 use Rattle.calls.proofs.ListCalls.{some-count, full-count}
 use Rattle.calls.proofs.RegularCalls.{some-arguments, rules-longest}
@@ -72,30 +73,34 @@ use Rattle.theorems.proofs.Operations.{asked, after-regular, after-list
 
 -- ---- the steps of a call, as one test of a rule
 
-keep-alike : (p q : Signature → Bool) → ((r : Signature) → p r ≡ q r) → (s : List Entry) → keep p s ≡ keep q s
+pub keep-alike : (p q : Signature → Bool) → ((r : Signature) → p r ≡ q r) → (s : List Entry) → keep p s ≡ keep q s
 keep-alike p q e [] = refl
 keep-alike p q e (x ∷ xs) = rw (e (x .rule), keep-alike p q e xs)
 
-both-assoc : (a b c : Bool) → both a (both b c) ≡ both (both a b) c
+pub both-assoc : (a b c : Bool) → both a (both b c) ≡ both (both a b) c
 both-assoc true b c = refl
 both-assoc false b c = refl
 
-abbrev keeping : List Keep → List Entry → List Entry
+-- what steps in turn keep of entries
+abbrev pub keeping : List Keep → List Entry → List Entry
 keeping ks s = inTurn (λ k. keep (passes k)) ks s
 
-steps-kept : (switch : Bool) (ts : List ℕ) (k : ℕ) (s : List Entry)
+pub steps-kept : (switch : Bool) (ts : List ℕ) (k : ℕ) (s : List Entry)
     → keeping (stepsFrom switch k ts) s ≡ keep (λ r. both (takesFrom k ts r) (permits switch r)) s
 steps-kept false [] k s = sym (keep-every s)
 steps-kept true [] k s = refl
 steps-kept switch (t ∷ ts) k s =
-    steps-kept switch ts (suc k) (keep (takes k t) s) ∙ keep-keep (takes k t) (λ r. both (takesFrom (suc k) ts r) (permits switch r)) s
+    steps-kept switch ts (suc k) (keep (fits Number k t) (keep (fits Shape k t) s))
+    ∙ ap (keep (λ r. both (takesFrom (suc k) ts r) (permits switch r))) (keep-pair k t s)
+    ∙ keep-keep (takes k t) (λ r. both (takesFrom (suc k) ts r) (permits switch r)) s
     ∙ keep-alike _ _ (λ r. both-assoc (takes k t r) (takesFrom (suc k) ts r) (permits switch r)) s
 
-known-steps : (switch : Bool) (ts : List ℕ) (k : ℕ) → AllKnown ts → every knownStep (stepsFrom switch k ts) ≡ true
+pub known-steps : (switch : Bool) (ts : List ℕ) (k : ℕ) → AllKnown ts → every knownStep (stepsFrom switch k ts) ≡ true
 known-steps true [] k h = refl
 known-steps false [] k h = refl
 known-steps switch (t ∷ ts) k h =
-    both-true (le-leb t lastCode (h 0 (omega arith))) (known-steps switch ts (suc k) (λ i l. h (suc i) (omega arith)))
+    let known = le-leb t lastCode (h 0 (omega arith)) in
+    both-true known (both-true known (known-steps switch ts (suc k) (λ i l. h (suc i) (omega arith))))
 
 -- the entries of a listing that pass
 abbrev pub passing : Bool → List ℕ → List Signature → List Entry
@@ -159,13 +164,12 @@ preferred-first : (s : List Entry) → preferredOf s ≡ answered (first s)
 preferred-first [] = refl
 preferred-first (x ∷ xs) = refl
 
--- ---- what a set means: the answers after the steps of a call are those of the listing's entries that pass
+-- ---- what a set means: the answers after steps are those of the listing's entries that pass
 
 pub record Means (s : Set) (rules : List Signature) : Type 0 where
   pub least : (p : Paper) → Least s p ↔ p ≡ accepted (longest rules ∷ [])
   pub most : (p : Paper) → Most s p ↔ p ≡ accepted (longest rules ∷ [])
-  pub empty : (switch : Bool) (ts : List ℕ) → AllKnown ts → (p : Paper)
-      → After Empty (stepsFrom switch 0 ts) s p ↔ p ≡ emptyEntries (passing switch ts rules)
+  pub empty : (ks : List Keep) → every knownStep ks ≡ true → (p : Paper) → After Empty ks s p ↔ p ≡ emptyEntries (keeping ks (number 0 rules))
   pub preferred : (switch : Bool) (ts : List ℕ) → AllKnown ts → length ts ≡ longest rules → (vs : List ℕ)
       → After Preferred (stepsFrom switch 0 ts) s (accepted vs) ↔ AnswersRule s (answered (first (passing switch ts rules))) vs
 
@@ -207,33 +211,43 @@ module _ (r : Regular) (able : Callable r) (some : 0 < length (regularRules r)) 
   unfolding regularCount
   regular-count = ap (λ v. onVerdict v (countOf (regularRules r)) (255 ∷ [])) (known-accepted r (able .known)) ∙ some-count (regularRules r) some
 
-  module _ (switch : Bool) (ts : List ℕ) (known : AllKnown ts) where
+  module _ (ks : List Keep) where
+    abbrev left-set : Regular
+    left-set = inTurn stepRegular ks r
+
+    left-known : Known left-set
+    left-known = lasts Known stepRegular step-known ks r (able .known)
+
+    left-rules : regularRules left-set ≡ rulesOf (keeping ks (number 0 (regularRules r)))
+    left-rules =
+        rules-after ks r (inl (some-arguments r able some))
+        ∙ ap (inTurn (λ k. filter (passes k)) ks) (sym (numbered 0 (regularRules r)))
+        ∙ sym (keeping-rules ks (number 0 (regularRules r)))
+
+    set-empty : regularEmpty left-set ≡ emptyEntries (keeping ks (number 0 (regularRules r)))
+    unfolding regularEmpty
+    set-empty =
+        ap (λ v. onVerdict v (emptyOf (regularRules left-set)) (255 ∷ [])) (known-accepted left-set left-known) ∙ ap emptyOf left-rules
+        ∙ empty-of (keeping ks (number 0 (regularRules r)))
+
+  module _ (switch : Bool) (ts : List ℕ) where
     abbrev rest : Regular
-    rest = inTurn stepRegular (stepsFrom switch 0 ts) r
+    rest = left-set (stepsFrom switch 0 ts)
 
     rest-known : Known rest
-    rest-known = lasts Known stepRegular step-known (stepsFrom switch 0 ts) r (able .known)
+    rest-known = left-known (stepsFrom switch 0 ts)
 
     rest-rules : regularRules rest ≡ rulesOf (passing switch ts (regularRules r))
-    rest-rules =
-        rules-after (stepsFrom switch 0 ts) r (inl (some-arguments r able some))
-        ∙ ap (inTurn (λ k. filter (passes k)) (stepsFrom switch 0 ts)) (sym (numbered 0 (regularRules r)))
-        ∙ sym (keeping-rules (stepsFrom switch 0 ts) (number 0 (regularRules r)))
-        ∙ ap rulesOf (steps-kept switch ts 0 (number 0 (regularRules r)))
+    rest-rules = left-rules (stepsFrom switch 0 ts) ∙ ap rulesOf (steps-kept switch ts 0 (number 0 (regularRules r)))
 
-    rest-empty : regularEmpty rest ≡ emptyEntries (passing switch ts (regularRules r))
-    unfolding regularEmpty
-    rest-empty =
-        ap (λ v. onVerdict v (emptyOf (regularRules rest)) (255 ∷ [])) (known-accepted rest rest-known) ∙ ap emptyOf rest-rules
-        ∙ empty-of (passing switch ts (regularRules r))
-
-    -- an argument's step has left one constructor, or none
+    -- the first step has left one constructor, or none
     rest-shape : length ts ≡ longest (regularRules r) → OneShape rest
     rest-shape e = go ts (e ∙ rules-longest r able)
       where
         go : (us : List ℕ) → length us ≡ r .arity → OneShape (inTurn stepRegular (stepsFrom switch 0 us) r)
         go [] e = absurd (omega (arith, some-arguments r able some))
-        go (u ∷ us) e = lasts OneShape stepRegular step-one (stepsFrom switch 1 us) (stepRegular (Argument 0 u) r) (argument-one 0 u r)
+        go (u ∷ us) e =
+            lasts OneShape stepRegular step-one (Argument Number 0 u ∷ stepsFrom switch 1 us) (stepRegular (Argument Shape 0 u) r) (shape-one 0 u r)
 
     rest-preferred : length ts ≡ longest (regularRules r) → regularPreferred rest ≡ firstRule (passing switch ts (regularRules r))
     rest-preferred e = go (passing switch ts (regularRules r)) rest-rules
@@ -249,13 +263,13 @@ module _ (r : Regular) (able : Callable r) (some : 0 < length (regularRules r)) 
   regular-means = record {
     least = asked countPaper (regularCount r) _ regular-count (count.Count (longest (regularRules r))) refl;
     most = asked countPaper (regularCount r) _ regular-count (count.Count (longest (regularRules r))) refl;
-    empty = λ switch ts known p.
-        both-ways (after-regular Empty (stepsFrom switch 0 ts) r (able .known) (known-steps switch ts 0 known) p)
-        (asked testPaper (regularEmpty (rest switch ts known)) _ (rest-empty switch ts known)
-        (testOf (passing switch ts (regularRules r))) (test-of (passing switch ts (regularRules r))) p);
+    empty = λ ks known p.
+        both-ways (after-regular Empty ks r (able .known) known p)
+        (asked testPaper (regularEmpty (left-set ks)) _ (set-empty ks) (testOf (keeping ks (number 0 (regularRules r))))
+        (test-of (keeping ks (number 0 (regularRules r)))) p);
     preferred = λ switch ts known e vs.
         both-ways (after-regular Preferred (stepsFrom switch 0 ts) r (able .known) (known-steps switch ts 0 known) (accepted vs))
-        (both-ways (asked rulePaper (regularPreferred (rest switch ts known)) _ (rest-preferred switch ts known e)
+        (both-ways (asked rulePaper (regularPreferred (rest switch ts)) _ (rest-preferred switch ts e)
         (ruleAnswer (passing switch ts (regularRules r))) (rule-answer (passing switch ts (regularRules r))) (accepted vs))
         (rule-answered r (passing switch ts (regularRules r)) vs));
   }
@@ -289,42 +303,40 @@ module _ (d : ListFunction) where
       ap (λ v. onVerdict v (countOf (listing whole)) (255 ∷ [])) (tested .accepted) ∙ full-count whole (full d whole refl) (subst⁻¹ (λ rs. 0 < length rs) (listed-signatures d) (some-listed d))
       ∙ ap (λ rs. accepted (longest rs ∷ [])) (listed-signatures d)
 
-  module _ (switch : Bool) (ts : List ℕ) where
+  module _ (ks : List Keep) where
     abbrev left : declared.List
-    left = inTurn kept (stepsFrom switch 0 ts) whole
+    left = inTurn kept ks whole
 
     left-accepted : verdictOf left ≡ accepted []
-    left-accepted = lasts Tested kept kept-tested (stepsFrom switch 0 ts) whole tested .accepted
+    left-accepted = lasts Tested kept kept-tested ks whole tested .accepted
 
-    left-entries : entries left ≡ passing switch ts (listedRules d)
-    left-entries =
-        entries-after (stepsFrom switch 0 ts) whole
-        ∙ ap (keeping (stepsFrom switch 0 ts)) (full-entries whole (full d whole refl) ∙ ap (number 0) (listed-signatures d))
-        ∙ steps-kept switch ts 0 (number 0 (listedRules d))
+    left-entries : entries left ≡ keeping ks (number 0 (listedRules d))
+    left-entries = entries-after ks whole ∙ ap (keeping ks) (full-entries whole (full d whole refl) ∙ ap (number 0) (listed-signatures d))
 
-    left-empty : listEmpty left ≡ emptyEntries (passing switch ts (listedRules d))
+    left-empty : listEmpty left ≡ emptyEntries (keeping ks (number 0 (listedRules d)))
     unfolding listEmpty
     left-empty =
         ap (λ v. onVerdict v (emptyOf (listing left)) (255 ∷ [])) left-accepted ∙ ap emptyOf (sym (entries-rules left) ∙ ap rulesOf left-entries)
-        ∙ empty-of (passing switch ts (listedRules d))
+        ∙ empty-of (keeping ks (number 0 (listedRules d)))
 
-    left-preferred : listPreferred left ≡ answered (first (passing switch ts (listedRules d)))
+    left-preferred : listPreferred left ≡ answered (first (keeping ks (number 0 (listedRules d))))
     unfolding listPreferred
     left-preferred =
         ap (λ v. onVerdict v (preferredOf (entries left)) noChoice) left-accepted ∙ ap preferredOf left-entries
-        ∙ preferred-first (passing switch ts (listedRules d))
+        ∙ preferred-first (keeping ks (number 0 (listedRules d)))
 
   list-means : Means (list whole) (listedRules d)
   list-means = record {
     least = asked countPaper (listCount whole) _ list-count (count.Count (longest (listedRules d))) refl;
     most = asked countPaper (listCount whole) _ list-count (count.Count (longest (listedRules d))) refl;
-    empty = λ switch ts known p.
-        both-ways (after-list Empty (stepsFrom switch 0 ts) whole tested (known-steps switch ts 0 known) p)
-        (asked testPaper (listEmpty (left switch ts)) _ (left-empty switch ts)
-        (testOf (passing switch ts (listedRules d))) (test-of (passing switch ts (listedRules d))) p);
+    empty = λ ks known p.
+        both-ways (after-list Empty ks whole tested known p)
+        (asked testPaper (listEmpty (left ks)) _ (left-empty ks) (testOf (keeping ks (number 0 (listedRules d))))
+        (test-of (keeping ks (number 0 (listedRules d)))) p);
     preferred = λ switch ts known e vs.
         both-ways (after-list Preferred (stepsFrom switch 0 ts) whole tested (known-steps switch ts 0 known) (accepted vs))
-        (both-ways (asked chosenPaper (listPreferred (left switch ts)) _ (left-preferred switch ts)
+        (both-ways (asked chosenPaper (listPreferred (left (stepsFrom switch 0 ts))) _
+        (left-preferred (stepsFrom switch 0 ts) ∙ ap (λ x. answered (first x)) (steps-kept switch ts 0 (number 0 (listedRules d))))
         (chosenAnswer (passing switch ts (listedRules d))) (chosen-answer (passing switch ts (listedRules d))) (accepted vs)) (sym, sym));
   }
 

@@ -1,4 +1,5 @@
--- Steps of a List. A step keeps the members that pass, in order; two steps commute, and a step done twice is done once. A List made of rules
+-- Steps of a List. A step keeps the members that pass, in order; two steps commute, a step done twice is done once, and the two of an
+-- operand are document 01's single one. A List made of rules
 -- lists them, and is accepted if they are known; and a step of a List that was tested is answered by the members that it keeps.
 -- Assumes nothing.
 use mathlib.Core.Path.{_≡_, refl, sym, ap, _∙_}
@@ -13,10 +14,12 @@ use lib.Seq.{take-all}
 use borrow.Author.Tests.{lt-ltb, le-leb, leb-true}
 use Rattle.scalars.specs.Mask.{choose, both, consIf, odd, filter, every, select}
 use Rattle.scalars.specs.Paper.{Paper, accepted, refusal}
-use Rattle.rules.specs.Signature.{Signature}
+use Rattle.rules.specs.Signature.{Signature, fits, takes}
 use Rattle.rules.specs.Rule.{ruleOf, knownRule, shortRule, passes}
 use Rattle.rules.specs.Verdict.{onVerdict}
+use Rattle.rules.specs.declared.rule.Part.the-variants.{Shape, Number}
 use Rattle.rules.specs.declared.rule.Keep.{Keep}
+use Rattle.rules.specs.declared.rule.Keep.the-variants.{Argument}
 use Rattle.lists.specs.Entry.{Entry, number}
 use Rattle.lists.specs.List.{mostRules, held, signatures, listing, entries, cleanList, acceptedList, noListValues, verdictOf, kept, listStep}
 use Rattle.lists.specs.Expansion.{listOf}
@@ -24,8 +27,10 @@ use Rattle.lists.specs.private.Tested.{Valid}
 use Rattle.lists.specs.declared.list.List.{List}
 use Rattle.scalars.proofs.Filters.{both-left, both-right, both-true}
 use Rattle.scalars.proofs.Meets.{select-ones}
-use Rattle.scalars.proofs.Sifts.{select-sift, sift-comm, sift-twice}
+use Rattle.scalars.proofs.Sifts.{select-sift, sift-comm, sift-twice, sift-both}
 use Rattle.rules.proofs.Records.{record-says, short?, typed?}
+use Rattle.rules.proofs.Rules.{takes-both}
+use Rattle.theorems.specs.Steps.{singleList}
 use Rattle.lists.proofs.Steps.{kept-valid}
 use Rattle.lists.proofs.Expansions.{held-of, signatures-of, valid-of}
 
@@ -42,6 +47,17 @@ kept-comm j k l = ap (λ (m : ℕ). record { rules = l .rules; len = l .len; mem
 pub kept-twice : (k : Keep) (l : List) → kept k (kept k l) ≡ kept k l
 unfolding kept signatures
 kept-twice k l = ap (λ (m : ℕ). record { rules = l .rules; len = l .len; members = m }) (sift-twice (passes k) (signatures l) (l .members))
+
+-- the steps by the two parts of an operand, in either order, keep the members that take it
+module _ (i t : ℕ) (l : List) where
+  pub list-shape-first : kept (Argument Number i t) (kept (Argument Shape i t) l) ≡ singleList i t l
+  unfolding kept signatures singleList
+  list-shape-first =
+      ap (λ (m : ℕ). record { rules = l .rules; len = l .len; members = m })
+      (sift-both (fits Number i t) (fits Shape i t) (takes i t) (takes-both i t) (signatures l) (l .members))
+
+  pub list-number-first : kept (Argument Shape i t) (kept (Argument Number i t) l) ≡ singleList i t l
+  list-number-first = kept-comm (Argument Shape i t) (Argument Number i t) l ∙ list-shape-first
 
 -- ---- the entries, without their indices, are the listing
 

@@ -1,7 +1,14 @@
 -- Each public function has one answer, as specs/OneAnswer.antt states it: its promise is an equation, of the answer or of its paper, and
 -- papers are one to one. Assumes nothing.
-use mathlib.Core.Path.{refl, sym, ap, _∙_}
-use Rattle.scalars.proofs.Papers.{walk-one, members-one, scalar-one, test-one, verdict-one, count-one}
+use mathlib.Core.Path.{_≡_, refl, sym, ap, ap₂, _∙_}
+use Rattle.scalars.specs.Mask.{sift}
+use Rattle.scalars.specs.Paper.{number, place}
+use Rattle.rules.specs.Rule.{passes}
+use Rattle.rules.specs.declared.rule.Part.the-variants.{Number}
+use Rattle.rules.specs.declared.rule.Keep.the-variants.{Argument}
+use Rattle.lists.specs.List.{signatures}
+use Rattle.lists.specs.declared.walks.BothSteps.{BothSteps}
+use Rattle.scalars.proofs.Papers.{refusal-one, walk-one, members-one, scalar-one, test-one, verdict-one, count-one}
 use Rattle.types.proofs.TypePapers.{size-one, constructor-one, code-one, combination-one, consensus-one, leaf-one}
 use Rattle.theorems.proofs.ReadPapers.{read-one}
 use Rattle.rules.proofs.RulePapers.{listing-one, types-one, rule-one}
@@ -17,6 +24,10 @@ use Rattle.text.proofs.TextPapers.{text-one}
 use Rattle.theorems.proofs.RunPapers.{run-one}
 use Rattle.theorems.proofs.TypedPapers.{type-one}
 use Rattle.theorems.specs.OneAnswer.{EachFunction}
+
+-- two sets of a List's rules
+both-one : (a b : BothSteps) → a .shaped .0 ≡ b .shaped .0 → a .left .0 ≡ b .left .0 → a ≡ b
+both-one a b shaped left = ap₂ (λ m n. record { shaped = record { 0 = m }; left = record { 0 = n } }) shaped left
 
 pub each-function : EachFunction
 each-function = record {
@@ -110,12 +121,14 @@ each-function = record {
   «List::allowed_args» = λ κs a x y v w p q. (types-one x y (p ∙ sym q), refl);
   «List::rule» = λ κs a x y v w p q. (p ∙ sym q, refl);
   «filter» = λ κs a x y v w p q. (ap (λ k. record { 0 = k }) (p ∙ sym q), refl);
+  «filter_both» = λ κs a x y v w p q. (both-one x y (p .0 ∙ sym (q .0)) (p .1 ∙ ap (sift (passes (Argument Number (a .1 .1 .0) (a .1 .1 .1 .0))) (signatures (a .0))) (p .0 ∙ sym (q .0)) ∙ sym (q .1)), refl);
   «longest» = λ κs a x y v w p q. (count-one x y (p ∙ sym q), refl);
   -- calls
   «call_of» = λ κs a x y v w p q. (chosen-one x y (p ∙ sym q), refl);
   «outcome_of» = λ κs a x y v w p q. (outcome-one x y (p ∙ sym q), refl);
   «survivors_of» = λ κs a x y v w p q. (survivors-one x y (p ∙ sym q), refl);
   «full_list» = λ κs a x y v w p q. (p ∙ sym q, refl);
+  «none_left» = λ κs a x y v w p q. (refusal-one x y (ap number (p ∙ sym q)) (ap place (p ∙ sym q)), refl);
   -- lending
   «lend_bytes» = λ κs a x y v w p q. (verdict-one x y (p .0 ∙ sym (q .0)), ap (λ l. (tt, (l, tt))) (p .1 ∙ sym (q .1)));
   «mask_in» = λ κs a x y v w p q. (mask-one x y (p ∙ sym q), refl);
@@ -149,10 +162,12 @@ each-function = record {
   «consensus_for_c» = λ κs a x y v w p q. (p ∙ sym q, refl);
   «mask_for_c» = λ κs a x y v w p q. (p ∙ sym q, refl);
   -- azwukran
-  «azwukran_list_arg» = λ κs a x y v w p q. (p .0 ∙ sym (q .0), ap (λ l. (tt, (tt, (tt, (tt, (l, tt)))))) (p .1 ∙ sym (q .1)));
+  «azwukran_list_arg_shape» = λ κs a x y v w p q. (p .0 ∙ sym (q .0), ap (λ l. (tt, (tt, (tt, (tt, (l, tt)))))) (p .1 ∙ sym (q .1)));
+  «azwukran_list_arg_number» = λ κs a x y v w p q. (p .0 ∙ sym (q .0), ap (λ l. (tt, (tt, (tt, (tt, (l, tt)))))) (p .1 ∙ sym (q .1)));
   «azwukran_list_concrete_only» = λ κs a x y v w p q. (p .0 ∙ sym (q .0), ap (λ l. (tt, (tt, (l, tt)))) (p .1 ∙ sym (q .1)));
   «azwukran_list_preferred» = λ κs a x y v w p q. (p ∙ sym q, refl);
-  «azwukran_regular_arg» = λ κs a x y v w p q. (p ∙ sym q, refl);
+  «azwukran_regular_arg_shape» = λ κs a x y v w p q. (p ∙ sym q, refl);
+  «azwukran_regular_arg_number» = λ κs a x y v w p q. (p ∙ sym q, refl);
   «azwukran_regular_concrete_only» = λ κs a x y v w p q. (p ∙ sym q, refl);
   «azwukran_regular_preferred» = λ κs a x y v w p q. (p ∙ sym q, refl);
   «azwukran_regular_rule» = λ κs a x y v w p q. (p ∙ sym q, refl);

@@ -85,19 +85,19 @@ module _ (k : Keep) (l : List) (t : Tested l) where
       go false e = (record { answer = verdict.Refused (Unknown 0); list = noList }, sym e, refl)
 
 regular-step : (k : Keep) (r : Regular) → Known r → (a : Answer) → Step k (regular r) a → a ≡ stepAnswer k (regular (stepRegular k r))
-regular-step (Argument i t) r h a (x, q, e) = e ∙ regular-is (Argument i t) r h x q
+regular-step (Argument part i t) r h a (x, q, e) = e ∙ regular-is (Argument part i t) r h x q
 regular-step Concrete r h a (x, q, e) = e ∙ regular-is Concrete r h x q
 
 step-regular : (k : Keep) (r : Regular) → Known r → Step k (regular r) (stepAnswer k (regular (stepRegular k r)))
-step-regular (Argument i t) r h = regular-so (Argument i t) r h
+step-regular (Argument part i t) r h = regular-so (Argument part i t) r h
 step-regular Concrete r h = regular-so Concrete r h
 
 list-step : (k : Keep) (l : List) → Tested l → (a : Answer) → Step k (list l) a → a ≡ stepAnswer k (list (kept k l))
-list-step (Argument i t) l h a (x, q, e) = e ∙ list-is (Argument i t) l h x q
+list-step (Argument part i t) l h a (x, q, e) = e ∙ list-is (Argument part i t) l h x q
 list-step Concrete l h a (x, q, e) = e ∙ list-is Concrete l h x q
 
 step-list : (k : Keep) (l : List) → Tested l → Step k (list l) (stepAnswer k (list (kept k l)))
-step-list (Argument i t) l h = list-so (Argument i t) l h
+step-list (Argument part i t) l h = list-so (Argument part i t) l h
 step-list Concrete l h = list-so Concrete l h
 
 -- ---- steps in turn, of either kind of set

@@ -1,5 +1,5 @@
--- An argument step leaves at most one constructor, and no later step brings one back: from then on the preferred rule of a Regular
--- set is the first of its listing. A List's preferred rule always is. Assumes nothing.
+-- A step by shape leaves at most one constructor, and no later step brings one back: from then on the preferred rule of a Regular set is
+-- the first of its listing. A List's preferred rule always is. Assumes nothing.
 use mathlib.Core.Path.{_≡_, refl, ap, ap₂, _∙_, subst⁻¹}
 use mathlib.Core.Bool.{Bool, true, false}
 use mathlib.Core.List.{List, [], _∷_, map}
@@ -23,6 +23,7 @@ use Rattle.rules.specs.RulePaper.{ruleValues, noRule}
 use Rattle.lists.specs.ChosenPaper.{noChoice}
 use Rattle.lists.specs.declared.list.List as declared
 use Rattle.regular.specs.declared.regular.Regular.{Regular}
+use Rattle.rules.specs.declared.rule.Part.the-variants.{Shape, Number}
 use Rattle.rules.specs.declared.rule.Keep.{Keep}
 use Rattle.rules.specs.declared.rule.Keep.the-variants.{Argument, Concrete}
 use Rattle.scalars.proofs.Bits.{bits-none}
@@ -63,7 +64,7 @@ at-most-one k i (suc n) m = go (odd m) (at-most-one k (suc i) n (m / 2))
 abbrev pub OneShape : Regular → Type 0
 OneShape r = length (bits constructorCount (r .constructors .0)) ≤ 1
 
-shapes-one : (t m : ℕ) → length (filter (shapes t) (bits constructorCount m)) ≤ 1
+shapes-one : (t m : ℕ) → length (filter (shapes Shape t) (bits constructorCount m)) ≤ 1
 unfolding bits
 shapes-one t m = go (value? t)
   where
@@ -74,19 +75,24 @@ shapes-one t m = go (value? t)
 none-one : OneShape emptyRegular
 none-one = subst⁻¹ (λ (ks : List ℕ). length ks ≤ 1) (bits-none constructorCount) zero-le
 
--- after an argument step
-pub argument-one : (i t : ℕ) (r : Regular) → OneShape (stepRegular (Argument i t) r)
+-- after a step by shape
+pub shape-one : (i t : ℕ) (r : Regular) → OneShape (stepRegular (Argument Shape i t) r)
 unfolding stepRegular
-argument-one i t r = go (ltb i (r .arity))
+shape-one i t r = go (ltb i (r .arity))
   where
-    go : (b : Bool) → OneShape (choose b (narrowed t r) emptyRegular)
-    go true = subst⁻¹ (λ (ks : List ℕ). length ks ≤ 1) (narrowed-constructors t r) (shapes-one t (r .constructors .0))
+    go : (b : Bool) → OneShape (choose b (narrowed Shape t r) emptyRegular)
+    go true = subst⁻¹ (λ (ks : List ℕ). length ks ≤ 1) (narrowed-constructors Shape t r) (shapes-one t (r .constructors .0))
     go false = none-one
 
 -- and after any later step
 pub step-one : (k : Keep) (r : Regular) → OneShape r → OneShape (stepRegular k r)
-unfolding stepRegular concreteSet
-step-one (Argument i t) r h = argument-one i t r
+unfolding stepRegular narrowed concreteSet
+step-one (Argument Shape i t) r h = shape-one i t r
+step-one (Argument Number i t) r h = go (ltb i (r .arity))
+  where
+    go : (b : Bool) → OneShape (choose b (narrowed Number t r) emptyRegular)
+    go true = h
+    go false = none-one
 step-one Concrete r h = h
 
 -- ---- the preferred rule is the first of the listing

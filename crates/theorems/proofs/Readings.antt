@@ -1,4 +1,4 @@
--- The readings of specs/Readings.antt hold, each table by one statement: document 01's marked ones, and the Rust's tests of a walk over set bits.
+-- The readings of specs/Readings.antt hold, each table by one statement: document 01's at the bench, and the Rust's tests of a walk over set bits.
 -- Assumes nothing.
 use mathlib.Core.Path.{_≡_, refl}
 use Rattle.scalars.specs.Mask.{bits}
@@ -14,14 +14,16 @@ use Rattle.functions.specs.Sequences.{floatScalars, concreteFloatScalars, concr
 use Rattle.functions.specs.ListedRules.{listedRules}
 use Rattle.functions.specs.Functions.{functionSets, functionSetOf, listingOf}
 use Rattle.calls.specs.Call.{callOf, survivorsOf, survivorsOfCall}
+use Rattle.expressions.specs.Tree.{count, bytesOf, bytesOfAll}
 use Rattle.expressions.specs.Reading.{argsAt, leafAt, callAt, taggedAt, nodeAt, expressionOf}
 use Rattle.machine.specs.Line.{encode}
+use Rattle.worksheet.specs.Places.{starts}
 use Rattle.worksheet.specs.Typer.{typeOf, typeAll}
 use Rattle.worksheet.specs.Typing.{typingOf}
 use Rattle.theorems.specs.Readings.{asked, paper, walked, tested}
 
 pub readings : asked ≡ paper
-unfolding asked paper bits converts isAbstract firstUnknown combination agree agreed firstOf giverOf consensusOf predeclaredCode reaches narrow resolve ruleOf codesOf concludedOf regularRules floatScalars concreteFloatScalars concreteIntScalars vectorSizes vector matrix scalarOrVecn functionSets functionSetOf listedRules listingOf callOf survivorsOf survivorsOfCall argsAt leafAt callAt taggedAt nodeAt expressionOf typeOf typeAll encode typingOf
+unfolding asked paper bits converts isAbstract firstUnknown combination agree agreed firstOf giverOf consensusOf predeclaredCode reaches narrow resolve ruleOf codesOf concludedOf regularRules floatScalars concreteFloatScalars concreteIntScalars vectorSizes vector matrix scalarOrVecn functionSets functionSetOf listedRules listingOf callOf survivorsOf survivorsOfCall argsAt leafAt callAt taggedAt nodeAt expressionOf count bytesOf bytesOfAll starts typeOf typeAll encode typingOf
 readings = refl
 
 pub walks : walked ≡ tested

@@ -3,9 +3,10 @@
 --
 -- * 7 at 0 exactly when there is no function f; 7 at 1 + i exactly when there is, and operand i is the first that is no type.
 -- A function has a set. Of a function and types, a call answers what the operations on the function's set answer, of either kind:
--- * 5 exactly when the number of operands is below the least count or above the most. Otherwise the set is asked for `arg`, each operand
---   in turn, and then for `concrete_only` if the switch is on.
--- * 6 at operand k exactly when `is_empty` says no before it and yes with it.
+-- * 5 exactly when the number of operands is below the least count or above the most. Otherwise the set is asked for `arg` by the shape
+--   and then by the number of each operand in turn, and then for `concrete_only` if the switch is on.
+-- * 6 at operand k exactly when `is_empty` says no before the step by its shape and yes with it; 16 exactly when it says no before the
+--   step by its number and yes with it.
 -- * 1 exactly when `is_empty` says no after the last operand, and yes after `concrete_only`.
 -- * A rule exactly when `most_preferred` answers it after all the steps; of a List, with the same index.
 -- And it answers what the function's full listing says, apart from all steps: the first rule that takes the operands, with its index, or
@@ -16,11 +17,13 @@
 use mathlib.Core.Path.{_≡_}
 use mathlib.Core.Logic.{_↔_}
 use mathlib.Core.Bool.{Bool, true, false}
-use mathlib.Core.List.{List, [], _∷_}
+use mathlib.Core.List.{List, [], _∷_, _++_}
 use Prim.Native.Nat.{ℕ, suc, _+_, _≤_, _<_}
-use lib.ListN.{length, take}
+use lib.ListN.{length, getD, take}
 use Rattle.scalars.specs.Mask.{select}
 use Rattle.scalars.specs.Paper.{Paper, accepted, refusal}
+use Rattle.rules.specs.declared.rule.Part.{Part}
+use Rattle.rules.specs.declared.rule.Part.the-variants.{Shape, Number}
 use Rattle.rules.specs.declared.rule.Keep.{Keep}
 use Rattle.rules.specs.declared.rule.Keep.the-variants.{Argument, Concrete}
 use Rattle.regular.specs.declared.regular.Regular.{Regular}
@@ -47,14 +50,19 @@ pub data Has (f : ℕ) : Set → Type 0 where
   itsList : (d : ListFunction) {l : declared.List} → functions.function_set.Reads.Post tt (f, tt) (function.List d) (f, tt)
       → single.full_list.Reads.Post tt (d, tt) l (d, tt) → Has f (list l)
 
--- the steps of a call: each operand at its index, then the concrete-only step if the switch is on
+-- the steps of a call: each operand at its index, by its shape and by its number, then the concrete-only step if the switch is on
 abbrev pub lastStep : Bool → List Keep
 lastStep false = []
 lastStep true = Concrete ∷ []
 
 abbrev pub stepsFrom : Bool → ℕ → List ℕ → List Keep
 stepsFrom switch k [] = lastStep switch
-stepsFrom switch k (t ∷ ts) = Argument k t ∷ stepsFrom switch (suc k) ts
+stepsFrom switch k (t ∷ ts) = Argument Shape k t ∷ Argument Number k t ∷ stepsFrom switch (suc k) ts
+
+-- those before the one by this part of operand k
+abbrev pub stepsBefore : Part → List ℕ → ℕ → List Keep
+stepsBefore Shape ts k = stepsFrom false 0 (take k ts)
+stepsBefore Number ts k = stepsFrom false 0 (take k ts) ++ (Argument Shape k (getD ts k 0) ∷ [])
 
 -- n operands are neither fewer than the least count nor more than the most
 pub record Fits (s : Set) (n : ℕ) : Type 0 where
@@ -65,11 +73,11 @@ pub record Fits (s : Set) (n : ℕ) : Type 0 where
   pub enough : least ≤ n
   pub few : n ≤ most
 
--- `is_empty` turns from no to yes with operand k
-pub record EmptiedAt (s : Set) (ts : List ℕ) (k : ℕ) : Type 0 where
+-- `is_empty` turns from no to yes with the step by this part of operand k
+pub record EmptiedAt (part : Part) (s : Set) (ts : List ℕ) (k : ℕ) : Type 0 where
   pub there : k < length ts
-  pub before : After Empty (stepsFrom false 0 (take k ts)) s (accepted (0 ∷ []))
-  pub after : After Empty (stepsFrom false 0 (take (suc k) ts)) s (accepted (1 ∷ []))
+  pub before : After Empty (stepsBefore part ts k) s (accepted (0 ∷ []))
+  pub after : After Empty (stepsBefore part ts k ++ (Argument part k (getD ts k 0) ∷ [])) s (accepted (1 ∷ []))
 
 -- and from no to yes with `concrete_only`
 pub record Dropped (switch : Bool) (s : Set) (ts : List ℕ) : Type 0 where
@@ -83,7 +91,8 @@ AnswersRule (list l) p vs = p ≡ accepted vs
 
 pub record BySet (switch : Bool) (s : Set) (ts : List ℕ) (p : Paper) : Type 0 where
   pub otherCount : p ≡ refusal 5 0 noChoice ↔ (Fits s (length ts) → ⊥)
-  pub emptied : (k : ℕ) → p ≡ refusal 6 (1 + k) noChoice ↔ (Fits s (length ts) × EmptiedAt s ts k)
+  pub wrongShape : (k : ℕ) → p ≡ refusal 6 (1 + k) noChoice ↔ (Fits s (length ts) × EmptiedAt Shape s ts k)
+  pub wrongNumber : (k : ℕ) → p ≡ refusal 16 (1 + k) noChoice ↔ (Fits s (length ts) × EmptiedAt Number s ts k)
   pub dropped : p ≡ refusal 1 0 noChoice ↔ (Fits s (length ts) × Dropped switch s ts)
   pub rule : (vs : List ℕ) → AnswersRule s p vs ↔ (Fits s (length ts) × After Preferred (stepsFrom switch 0 ts) s (accepted vs))
 

@@ -5,8 +5,8 @@
 -- * The survivors of a call are the rules of the listing that take the operands: bit i of their mask is set exactly when rule i does. The
 --   preferred rule is the first of them, its index its place in the full listing, and the result that rule's own.
 -- * What a call answers is exactly what is so: a rule, the first of the listing that takes the operands; 5 where no rule takes that
---   number of operands; 6 at operand k where some rule takes the operands before k, but none takes those up to k; 1 where rules take
---   the operands and the switch drops them all.
+--   number of operands; 6 at operand k where some rule takes the operands before k, but none of those that do has k's shape; 16 at operand
+--   k where one of them has its shape, but none takes k too; 1 where rules take the operands and the switch drops them all.
 -- * A call is accepted exactly when some rule of the listing has that many arguments, each equal to or reached from the operand's
 --   type, and with the switch on no abstract argument.
 -- * An operand that is no scalar, vector or matrix, as a predeclared result is none, matches no rule.

@@ -125,12 +125,14 @@ pub record EachFunction : Type 0 where
   pub «List::allowed_args» : OneAnswer list.List.allowed_args.ended list.List.allowed_args.Reads.Post
   pub «List::rule» : OneAnswer list.List.rule.ended list.List.rule.Reads.Post
   pub «filter» : OneAnswer lists.filter.ended lists.filter.Reads.Post
+  pub «filter_both» : OneAnswer lists.filter_both.ended lists.filter_both.Reads.Post
   pub «longest» : OneAnswer lists.longest.ended lists.longest.Reads.Post
   -- calls
   pub «call_of» : OneAnswer calls.call_of.ended calls.call_of.Reads.Post
   pub «outcome_of» : OneAnswer calls.outcome_of.ended calls.outcome_of.Reads.Post
   pub «survivors_of» : OneAnswer calls.survivors_of.ended calls.survivors_of.Reads.Post
   pub «full_list» : OneAnswer calls.full_list.ended calls.full_list.Reads.Post
+  pub «none_left» : OneAnswer calls.none_left.ended calls.none_left.Reads.Post
   -- lending
   pub «lend_bytes» : OneAnswer lending.lend_bytes.ended lending.lend_bytes.Reads.Post
   pub «mask_in» : OneAnswer lending.mask_in.ended lending.mask_in.Reads.Post
@@ -168,10 +170,12 @@ pub record EachFunction : Type 0 where
   pub «consensus_for_c» : OneAnswer c_answers.consensus_for_c.ended c_answers.consensus_for_c.Reads.Post
   pub «mask_for_c» : OneAnswer c_answers.mask_for_c.ended c_answers.mask_for_c.Reads.Post
   -- azwukran
-  pub «azwukran_list_arg» : OneAnswer azwukran.azwukran_list_arg.ended azwukran.azwukran_list_arg.Reads.Post
+  pub «azwukran_list_arg_shape» : OneAnswer azwukran.azwukran_list_arg_shape.ended azwukran.azwukran_list_arg_shape.Reads.Post
+  pub «azwukran_list_arg_number» : OneAnswer azwukran.azwukran_list_arg_number.ended azwukran.azwukran_list_arg_number.Reads.Post
   pub «azwukran_list_concrete_only» : OneAnswer azwukran.azwukran_list_concrete_only.ended azwukran.azwukran_list_concrete_only.Reads.Post
   pub «azwukran_list_preferred» : OneAnswer azwukran.azwukran_list_preferred.ended azwukran.azwukran_list_preferred.Reads.Post
-  pub «azwukran_regular_arg» : OneAnswer azwukran.azwukran_regular_arg.ended azwukran.azwukran_regular_arg.Reads.Post
+  pub «azwukran_regular_arg_shape» : OneAnswer azwukran.azwukran_regular_arg_shape.ended azwukran.azwukran_regular_arg_shape.Reads.Post
+  pub «azwukran_regular_arg_number» : OneAnswer azwukran.azwukran_regular_arg_number.ended azwukran.azwukran_regular_arg_number.Reads.Post
   pub «azwukran_regular_concrete_only» : OneAnswer azwukran.azwukran_regular_concrete_only.ended azwukran.azwukran_regular_concrete_only.Reads.Post
   pub «azwukran_regular_preferred» : OneAnswer azwukran.azwukran_regular_preferred.ended azwukran.azwukran_regular_preferred.Reads.Post
   pub «azwukran_regular_rule» : OneAnswer azwukran.azwukran_regular_rule.ended azwukran.azwukran_regular_rule.Reads.Post

@@ -52,7 +52,7 @@ abbrev pub Listed : Set → Paper → Type 0
 Listed (regular r) = Paper-of listingPaper (λ x. ofSet.overload_list.Reads.Post tt (r, tt) x (r, tt))
 Listed (list l) = Paper-of listingPaper (λ x. ofList.overload_list.Reads.Post tt (l, tt) x (l, tt))
 
--- ---- steps: `arg` and `concrete_only`
+-- ---- steps: `arg`, by shape or by number, and `concrete_only`
 
 -- what a step answers: a set, or a refusal
 pub data Answer : Type 0 where
@@ -74,9 +74,11 @@ abbrev pub Answer-of : {A : Type 0} → (A → Answer) → (A → Type 0) → An
 Answer-of {A = A} answer permitted a = (x : A) × permitted x × (a ≡ answer x)
 
 abbrev pub Step : Keep → Set → Answer → Type 0
-Step (Argument i t) (regular r) = Answer-of regularAnswer (λ x. ofSet.arg.Reads.Post tt (r, (i, (t, tt))) x (r, (i, (t, tt))))
+Step (Argument part i t) (regular r) =
+    Answer-of regularAnswer (λ x. ofSet.arg.Reads.Post tt (r, (part, (i, (t, tt)))) x (r, (part, (i, (t, tt)))))
 Step Concrete (regular r) = Answer-of regularAnswer (λ x. ofSet.concrete_only.Reads.Post tt (r, tt) x (r, tt))
-Step (Argument i t) (list l) = Answer-of listAnswer (λ x. ofList.arg.Reads.Post tt (l, (i, (t, tt))) x (l, (i, (t, tt))))
+Step (Argument part i t) (list l) =
+    Answer-of listAnswer (λ x. ofList.arg.Reads.Post tt (l, (part, (i, (t, tt)))) x (l, (part, (i, (t, tt)))))
 Step Concrete (list l) = Answer-of listAnswer (λ x. ofList.concrete_only.Reads.Post tt (l, tt) x (l, tt))
 
 -- steps in turn, each asked of the set in the answer before; after a refusal nothing more is asked

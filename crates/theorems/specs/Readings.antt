@@ -1,7 +1,8 @@
 -- Readings, of the very definitions that the public promises cite: two tables, each proved by one statement.
 --
--- * 'Readings at the bench': the marked ones. `asked` asks the definitions, and `paper` is what document 01 says; a row is the paper's
---   number, its place, and the values that the reading names; of a consensus also who gave it, by document 02's request (ii).
+-- * 'Readings at the bench': the marked ones, and of 'Errors that look right' the call that document 02's (iv) speaks of. `asked` asks the
+--   definitions, and `paper` is what document 01 says; a row is the paper's number, its place, and the values that the reading names; of a
+--   consensus also who gave it, by document 02's request (ii). Where (iv) has it so, 16 stands for 6.
 -- * The tests of the Rust's `one_bits_iter.rs`: `walked` asks what `OneBitsIter::next` and `OneBit::number` promise, and `tested` is what
 --   the tests expect; a row for the masks that the walk yields, one after the other to its end, and a row for their numbers.
 use mathlib.Core.Bool.{false}
@@ -47,7 +48,7 @@ asked =
     called 4 (0 ∷ 5 ∷ 0 ∷ [])
     ∷ called 5 (5 ∷ []) ∷ called 5 (0 ∷ [])
     ∷ called 66 (0 ∷ 0 ∷ [])
-    ∷ called 32 (8 ∷ 9 ∷ [])
+    ∷ called 32 (8 ∷ 9 ∷ []) ∷ typedAs (1 ∷ 32 ∷ 2 ∷ 1 ∷ 66 ∷ 2 ∷ 0 ∷ 1 ∷ 0 ∷ 1 ∷ 0 ∷ 9 ∷ [])
     ∷ surviving 72 (8 ∷ 8 ∷ 8 ∷ []) ∷ called 72 (8 ∷ 8 ∷ 8 ∷ []) ∷ called 72 (20 ∷ 20 ∷ 8 ∷ [])
     ∷ called 74 (61 ∷ [])
     ∷ consensus base.Nothing (0 ∷ 5 ∷ 1 ∷ []) ∷ consensus base.Nothing (0 ∷ 8 ∷ 1 ∷ []) ∷ consensus (base.Scalar (record { 0 = 1 })) (2 ∷ [])
@@ -58,12 +59,12 @@ unfoldable pub paper : List (List ℕ)
 paper =
     -- Clamp(0, 5, 0) gives type 5, index 5
     (0 ∷ 0 ∷ 5 ∷ 5 ∷ [])
-    -- Sin(5): refusal 6. Sin(0): type 1
-    ∷ (6 ∷ 1 ∷ 255 ∷ 255 ∷ []) ∷ (0 ∷ 0 ∷ 0 ∷ 1 ∷ [])
+    -- Sin(5): refusal 16. Sin(0): type 1
+    ∷ (16 ∷ 1 ∷ 255 ∷ 255 ∷ []) ∷ (0 ∷ 0 ∷ 0 ∷ 1 ∷ [])
     -- Distance(0, 0): type 8, index 0
     ∷ (0 ∷ 0 ∷ 0 ∷ 8 ∷ [])
-    -- Pow(8, 9): refusal 6 at the second argument
-    ∷ (6 ∷ 2 ∷ 255 ∷ 255 ∷ [])
+    -- Pow(8, 9): refusal 16 at the second argument. Pow(Distance(1, 1), 9): refusal 16 at its second argument
+    ∷ (16 ∷ 2 ∷ 255 ∷ 255 ∷ []) ∷ (16 ∷ 10 ∷ 255 ∷ [])
     -- Mix(8, 8, 8): survivors 8 and 9, preferred 8. Mix(20, 20, 8): index 11
     ∷ (0 ∷ 0 ∷ 0b11_0000_0000 ∷ []) ∷ (0 ∷ 0 ∷ 8 ∷ 8 ∷ []) ∷ (0 ∷ 0 ∷ 11 ∷ 20 ∷ [])
     -- Transpose(61): type 85, index 4

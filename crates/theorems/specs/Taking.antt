@@ -8,8 +8,10 @@ use mathlib.Core.Option.{some}
 use Prim.Native.Nat.{ℕ, zero, suc, _/_, _^_, _≤_, _<_}
 use lib.ListN.{length, getD, getElem?}
 use Rattle.scalars.specs.Mask.{odd}
-use Rattle.rules.specs.Signature.{Signature, reaches, concrete}
+use Rattle.rules.specs.Signature.{Signature, sameShape, reaches, concrete}
 use Rattle.rules.specs.Verdict.{longest}
+use Rattle.rules.specs.declared.rule.Part.{Part}
+use Rattle.rules.specs.declared.rule.Part.the-variants.{Shape, Number}
 use Rattle.calls.specs.Choice.{Choice, chosen, wrongCount, noneAfter, noneConcrete}
 
 -- a rule takes operands: as many as it has arguments, each of them its argument's type or converted to it, and, with the
@@ -48,12 +50,27 @@ pub record LeftAfter (rules : List Signature) (ts : List ℕ) (k : ℕ) : Type 0
   pub long : k < length (rule .arguments)
   pub reached : (j : ℕ) → j ≤ k → reaches (getD ts j 0) (getD (rule .arguments) j 0) ≡ true
 
--- the number of operands is the rules', and some rule takes those before k, but none takes those up to k
-pub record Emptied (rules : List Signature) (ts : List ℕ) (k : ℕ) : Type 0 where
+-- a rule has operand k's shape there: it has that argument, takes the operands before k, and its constructor at k is the operand's
+pub record ShapeLeft (rules : List Signature) (ts : List ℕ) (k : ℕ) : Type 0 where
+  pub index : ℕ
+  pub rule : Signature
+  pub there : getElem? rules index ≡ some rule
+  pub long : k < length (rule .arguments)
+  pub reached : (j : ℕ) → j < k → reaches (getD ts j 0) (getD (rule .arguments) j 0) ≡ true
+  pub shape : sameShape (getD ts k 0) (getD (rule .arguments) k 0) ≡ true
+
+-- operand k leaves no rule: by its shape, where no rule that takes those before it has its shape; by its number, where one has, but none
+-- takes it
+abbrev pub NoneBy : Part → List Signature → List ℕ → ℕ → Type 0
+NoneBy Shape rules ts k = ShapeLeft rules ts k → ⊥
+NoneBy Number rules ts k = ShapeLeft rules ts k × (LeftAfter rules ts k → ⊥)
+
+-- the number of operands is the rules', some rule takes those before k, and this part of k leaves none
+pub record Emptied (part : Part) (rules : List Signature) (ts : List ℕ) (k : ℕ) : Type 0 where
   pub counted : length ts ≡ longest rules
   pub there : k < length ts
   pub before : (j : ℕ) → j < k → LeftAfter rules ts j
-  pub none : LeftAfter rules ts k → ⊥
+  pub none : NoneBy part rules ts k
 
 -- with a rule left after each operand, none takes them all: the switch drops every one
 pub record Dropped (switch : Bool) (rules : List Signature) (ts : List ℕ) : Type 0 where
@@ -75,5 +92,5 @@ pub record Survive (switch : Bool) (rules : List Signature) (ts : List ℕ) (m :
 abbrev pub Says : Bool → List Signature → List ℕ → Choice → Type 0
 Says switch rules ts (chosen i r) = Best switch rules ts i r
 Says switch rules ts wrongCount = length ts ≡ longest rules → ⊥
-Says switch rules ts (noneAfter k) = Emptied rules ts k
+Says switch rules ts (noneAfter part k) = Emptied part rules ts k
 Says switch rules ts noneConcrete = Dropped switch rules ts

@@ -10,12 +10,13 @@ use lib.ListN.{length, getD, take, drop, length-append, length-take}
 use lib.Seq.{take-add, take-at, drop-at, getD-take, getD-append-add}
 use Rattle.rules.specs.Rule.{argumentsOf, ruleOf}
 use Rattle.rules.specs.Signature.{Signature}
-use Rattle.calls.specs.Choice.{Choice, chosen, wrongCount, noneAfter, noneConcrete, resolve}
+use Rattle.calls.specs.Choice.{noneLeft, Choice, chosen, wrongCount, noneAfter, noneConcrete, resolve}
 use Rattle.functions.specs.Functions.{listingOf}
 use Rattle.calls.specs.Call.{answered}
 use Rattle.calls.specs.OutcomePaper.{outcomePaper}
 use Rattle.calls.specs.declared.outcome.Outcome.the-variants.{Rule, WrongCount, NoneAfter, NoneConcrete}
 use Rattle.rules.specs.declared.rule.Rule as rules
+use Rattle.rules.specs.declared.rule.Part.{Part}
 use Rattle.lists.specs.declared.list.Chosen.{Chosen}
 use Rattle.scalars.specs.declared.refusal.Refusal.{Refusal}
 use Rattle.scalars.specs.declared.refusal.Refusal.the-variants as refusal
@@ -93,22 +94,22 @@ module _ (f n at past : ℕ) (switch : Bool) (s : Stack) (h : Sheet) where
       (claim us qs (at-part (s .starts) (s .top) n ps qs se qm pl) ts ps)
 
   -- the operand after which no rule is left is one of the call's
-  pub operand-here : n ≤ s .top → (k : ℕ) → outcomePaper (NoneAfter k) ≡ answered choice → k < n
-  operand-here l k e =
+  pub operand-here : n ≤ s .top → (part : Part) (k : ℕ) → outcomePaper (NoneAfter part k) ≡ answered choice → k < n
+  operand-here l part k e =
       omega (
         arith,
-        operand-there switch (listingOf f) asked k (choice-of (NoneAfter k) choice e),
+        operand-there switch (listingOf f) asked part k (choice-of (NoneAfter part k) choice e),
         part-length (s .types) (s .top) n l,
       )
 
   pub call-miscounted : outcomePaper WrongCount ≡ answered choice → CallTyped f n at past switch s h (ended (refusal.WrongCount at))
   call-miscounted e = ended-by (refusal.WrongCount at) wrongCount (choice-of WrongCount choice e) (λ us qs g ts ps. refl)
 
-  pub call-none-after : n ≤ s .top → (k : ℕ) → outcomePaper (NoneAfter k) ≡ answered choice
-      → CallTyped f n at past switch s h (ended (refusal.NoRuleLeft (getD (s .starts) (s .top - n + k) 0)))
-  call-none-after l k e =
-      ended-by (refusal.NoRuleLeft (getD (s .starts) (s .top - n + k) 0)) (noneAfter k) (choice-of (NoneAfter k) choice e)
-      (λ us qs g ts ps. ap (λ (x : ℕ). paper.refusal 6 x []) (g k (operand-here l k e)))
+  pub call-none-after : n ≤ s .top → (part : Part) (k : ℕ) (why : Refusal) → paper.refusalPaper why ≡ paper.refusal (noneLeft part) (getD (s .starts) (s .top - n + k) 0) []
+      → outcomePaper (NoneAfter part k) ≡ answered choice → CallTyped f n at past switch s h (ended why)
+  call-none-after l part k why is e =
+      ended-by why (noneAfter part k) (choice-of (NoneAfter part k) choice e)
+      (λ us qs g ts ps. is ∙ ap (λ (x : ℕ). paper.refusal (noneLeft part) x []) (g k (operand-here l part k e)))
 
   pub call-none-concrete : outcomePaper NoneConcrete ≡ answered choice → CallTyped f n at past switch s h (ended (refusal.EmptySet at))
   call-none-concrete e = ended-by (refusal.EmptySet at) noneConcrete (choice-of NoneConcrete choice e) (λ us qs g ts ps. refl)

@@ -147,7 +147,7 @@ module _ (b : List ℕ) (at : ℕ) (s : Stack) (h : Sheet) where
           wrote = wrote-as (sym (encode-append ls (callLines f j ts rule))) (wrote-both (g .wrote) (c .wrote));
         }
         concluded f es ts ls r full g wrongCount c = c
-        concluded f es ts ls r full g (noneAfter k) c = c
+        concluded f es ts ls r full g (noneAfter part k) c = c
         concluded f es ts ls r full g noneConcrete c = c
 
         pub call-typed : NodeThere b at s h → (r : Progress)

@@ -46,7 +46,7 @@ conclude-sized f at places es ts ls k (chosen i r) =
     let d = few-conversions ts (r .arguments) in
     record { few = omega (arith, k .few) }
 conclude-sized f at places es ts ls k wrongCount = tt
-conclude-sized f at places es ts ls k (noneAfter j) = tt
+conclude-sized f at places es ts ls k (noneAfter part j) = tt
 conclude-sized f at places es ts ls k noneConcrete = tt
 
 module _ (switch : Bool) where

@@ -4,7 +4,7 @@ use mathlib.Core.List.{List, [], _∷_, _++_}
 use Prim.Native.Nat.{ℕ}
 use lib.ListN.{getD}
 use Rattle.rules.specs.Signature.{Signature}
-use Rattle.calls.specs.Choice.{Choice, chosen, wrongCount, noneAfter, noneConcrete, resolve}
+use Rattle.calls.specs.Choice.{noneLeft, Choice, chosen, wrongCount, noneAfter, noneConcrete, resolve}
 use Rattle.expressions.specs.Tree.{Tree, Trees, leaf, call, none, more}
 use Rattle.worksheet.specs.Places.{inside, behind, starts}
 use Rattle.machine.specs.Line.{Line, leafLine, callLines}
@@ -19,11 +19,11 @@ abbrev pub andThen : {A B : Type 0} → Typed A → (A → List Line → Typed B
 andThen (typed x ls) next = next x ls
 andThen (refused number place) next = refused number place
 
--- a wrong count (5) and an empty set (1) stand at the call's tag, an operand that no rule takes (6) at its first byte
+-- a wrong count (5) and an empty set (1) stand at the call's tag, an operand of a wrong shape (6) or number (16) at its first byte
 abbrev pub conclude : ℕ → ℕ → List ℕ → List ℕ → List Line → Choice → Typed ℕ
 conclude f at places ts ls (chosen i r) = typed (r .result) (ls ++ callLines f i ts r)
 conclude f at places ts ls wrongCount = refused 5 at
-conclude f at places ts ls (noneAfter k) = refused 6 (getD places k 0)
+conclude f at places ts ls (noneAfter part k) = refused (noneLeft part) (getD places k 0)
 conclude f at places ts ls noneConcrete = refused 1 at
 
 module _ (listingOf : ℕ → List Signature) (switch : Bool) where

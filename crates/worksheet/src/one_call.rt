@@ -10,6 +10,7 @@ use crate::progress::Progress;
 use crate::sheet::Sheet;
 use crate::stack::Stack;
 use calls::Outcome;
+use calls::none_left;
 use calls::outcome_of;
 use machine::CALL_LINE;
 use machine::CONVERSION_LINE;
@@ -19,7 +20,7 @@ use scalars::Refusal;
 use scalars::Verdict;
 
 // Types the call at `at`, whose operands are the last `count` on the stack, and whose last byte stands before `past`. A wrong count and
-// an empty set are refused at the call's tag, an operand that no rule takes at its first byte.
+// an empty set are refused at the call's tag, an operand of a wrong shape or number at its first byte.
 pub(crate) fn type_call(
     function: u8,
     count: u8,
@@ -40,10 +41,10 @@ pub(crate) fn type_call(
     let operands = &types[from..top];
     match outcome_of(function, operands, switch) {
         Outcome::WrongCount => Progress::refused(Refusal::WrongCount(at), past, stack, sheet),
-        Outcome::NoneAfter(k) => {
+        Outcome::NoneAfter(part, k) => {
             let operand = from + k;
             let start = starts[operand];
-            Progress::refused(Refusal::NoRuleLeft(start), past, stack, sheet)
+            Progress::refused(none_left(part, start), past, stack, sheet)
         }
         Outcome::NoneConcrete => Progress::refused(Refusal::EmptySet(at), past, stack, sheet),
         Outcome::Rule(chosen) => {

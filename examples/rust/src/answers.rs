@@ -15,7 +15,7 @@ pub mod number {
     pub const TOO_MANY: u8 = 3;
     pub const NO_ARGUMENT: u8 = 4;
     pub const COUNT: u8 = 5;
-    pub const ARGUMENT: u8 = 6;
+    pub const SHAPE: u8 = 6;
     pub const UNKNOWN: u8 = 7;
     pub const MALFORMED: u8 = 8;
     pub const TOO_LARGE: u8 = 9;
@@ -25,6 +25,7 @@ pub mod number {
     pub const OUTSIDE: u8 = 13;
     pub const UNKNOWN_RUN: u8 = 14;
     pub const MISPLACED: u8 = 15;
+    pub const NUMBER_TYPE: u8 = 16;
     /// That of a run that stopped.
     pub const STOPPED: u8 = 255;
 }
@@ -121,7 +122,7 @@ pub struct MaskAnswer {
     pub place: usize,
 }
 
-/// A refusal: its number, 1 to 15, and its place.
+/// A refusal: its number, 1 to 16, and its place.
 #[derive(Clone, Copy, Debug, PartialEq, Eq)]
 pub struct Refusal {
     pub number: u8,
@@ -259,7 +260,7 @@ impl fmt::Display for Refusal {
             number::TOO_MANY => "too many rules or arguments",
             number::NO_ARGUMENT => "some rule has no argument there",
             number::COUNT => "wrong number of arguments",
-            number::ARGUMENT => "no rule is left after this argument",
+            number::SHAPE => "no rule is left with this argument's shape",
             number::UNKNOWN => "unknown function, type, scalar, index, set bit or conclusion",
             number::MALFORMED => "bytes cut short or left over, or an unknown tag",
             number::TOO_LARGE => "the expression has more than 64 nodes or is deeper than 16",
@@ -268,7 +269,8 @@ impl fmt::Display for Refusal {
             number::DISAGREE => "there is no consensus",
             number::OUTSIDE => "the rule has no result",
             number::UNKNOWN_RUN => "no function or type has this name",
-            _ => "the text is too long, or something in it is misplaced or missing",
+            number::MISPLACED => "the text is too long, or something in it is misplaced or missing",
+            _ => "rules are left with this argument's shape, and none with a number type that its own converts to",
         };
         write!(f, "refusal {} at {}: {reason}", self.number, self.place)
     }

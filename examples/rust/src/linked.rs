@@ -21,7 +21,15 @@ unsafe extern "C" {
     pub fn azwukran_read_text(text: *const u8, n: usize, out: *mut u8, room: usize) -> TextAnswer;
     pub fn azwukran_write_text(bytes: *const u8, n: usize, out: *mut u8, room: usize) -> TextAnswer;
     pub fn azwukran_run(sheet: *const u8, n: usize) -> RunAnswer;
-    pub safe fn azwukran_regular_arg(
+    pub safe fn azwukran_regular_arg_shape(
+        arity: u8,
+        constructors: u16,
+        scalars: u16,
+        conclusion: u8,
+        index: usize,
+        type_code: u8,
+    ) -> RegularAnswer;
+    pub safe fn azwukran_regular_arg_number(
         arity: u8,
         constructors: u16,
         scalars: u16,
@@ -43,7 +51,17 @@ unsafe extern "C" {
         conclusion: u8,
         index: u8,
     ) -> RuleAnswer;
-    pub fn azwukran_list_arg(
+    pub fn azwukran_list_arg_shape(
+        rules: *const u8,
+        n: usize,
+        members: *const u8,
+        m: usize,
+        index: usize,
+        type_code: u8,
+        out: *mut u8,
+        room: usize,
+    ) -> MaskAnswer;
+    pub fn azwukran_list_arg_number(
         rules: *const u8,
         n: usize,
         members: *const u8,

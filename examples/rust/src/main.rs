@@ -34,6 +34,7 @@ fn main() {
     show_call("Sin", SIN, &[ABSTRACT_INT], true);
     show_call("Mix", MIX, &[F32, F32, F32], false);
     show_call("Pow", POW, &[F32, F16], false);
+    show_call("Pow", POW, &[F32, VEC2_F32], false);
     show_rule("Transpose", TRANSPOSE, 4);
     show_rule("Transpose", TRANSPOSE, 36);
     show_consensus(NONE, &[ABSTRACT_INT, F32, ABSTRACT_FLOAT]);
@@ -144,17 +145,19 @@ fn show_written(question: &str, bytes: &[u8], room: usize) {
     show(question, length.map(|length| String::from_utf8_lossy(&lent[..length]).into_owned()));
 }
 
-/// A Regular set, what two steps leave of it, and its rules.
+/// A Regular set, its rules, and what steps leave of it: concrete-only, and an argument's two, one after the other.
 fn show_regular(set: Regular) {
     show("Regular set", Ok(regular_text(set)));
     show("  preferred", set.preferred().unpack().map(|rule| rule_text(&rule)));
     show("  rule 5", set.rule(5).unpack().map(|rule| rule_text(&rule)));
     show("  concrete only", set.concrete_only().unpack().map(regular_text));
-    let left = set.arg(0, VEC2_F32).unpack();
-    show("  argument 0 of type 20", left.map(regular_text));
-    if let Ok(left) = left {
-        show("  preferred then", left.preferred().unpack().map(|rule| rule_text(&rule)));
-    }
+    let shaped = set.arg_shape(0, VEC2_F32).unpack();
+    show("  argument 0 by the shape of type 20", shaped.map(regular_text));
+    let Ok(shaped) = shaped else { return };
+    let left = shaped.arg_number(0, VEC2_F32).unpack();
+    show("  and by its number type", left.map(regular_text));
+    let Ok(left) = left else { return };
+    show("  preferred then", left.preferred().unpack().map(|rule| rule_text(&rule)));
 }
 
 fn regular_text(set: Regular) -> String {
@@ -162,8 +165,8 @@ fn regular_text(set: Regular) -> String {
     format!("arity {arity}, constructors {constructors}, scalars {scalars}, conclusion {conclusion}")
 }
 
-/// The rules of a function as a List, and what an argument and the concrete-only step leave of it. A step lends eight
-/// bytes for its mask; those behind it keep what they held.
+/// The rules of a function as a List, and what steps leave of it: an argument's two, one after the other, and
+/// concrete-only. A step lends eight bytes for its mask; those behind it keep what they held.
 fn show_list(name: &str, function: u8) {
     let rules: Vec<u8> = (0..=u8::MAX)
         .map(|index| azwukran::rule(function, index))
@@ -174,9 +177,15 @@ fn show_list(name: &str, function: u8) {
     let members = [0xff; 4];
     let list = List { rules: &rules, members: &members };
     show("List", Ok(format!("{name}, {} bytes of rules", rules.len())));
-    show("  argument 0 of type 20, no room", list.arg(0, VEC2_F32, &mut []).unpack().map(|()| String::new()));
+    let no_room = list.arg_shape(0, VEC2_F32, &mut []).unpack();
+    show("  argument 0 by the shape of type 20, no room", no_room.map(|()| String::new()));
     let mut lent = [FILL; ENOUGH_MASK];
-    show("  argument 0 of type 20", list.arg(0, VEC2_F32, &mut lent).unpack().map(|()| listed(&lent)));
+    let shaped = list.arg_shape(0, VEC2_F32, &mut lent).unpack();
+    show("  argument 0 by the shape of type 20", shaped.map(|()| listed(&lent)));
+    let shaped = List { rules: &rules, members: &lent };
+    let mut lent = [FILL; ENOUGH_MASK];
+    let left = shaped.arg_number(0, VEC2_F32, &mut lent).unpack();
+    show("  and by its number type", left.map(|()| listed(&lent)));
     let left = List { rules: &rules, members: &lent };
     let preferred = left.preferred().unpack();
     show("  preferred then", preferred.map(|chosen| format!("rule {}, {}", chosen.index, rule_text(&chosen.rule))));

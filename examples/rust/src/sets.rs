@@ -4,11 +4,18 @@ use crate::answers::{ChosenAnswer, MaskAnswer, Regular, RegularAnswer, RuleAnswe
 use crate::linked;
 
 impl Regular {
-    /// The set that an argument of this type at this index leaves.
+    /// The set that the shape of an argument of this type at this index leaves.
     #[inline]
-    pub fn arg(self, index: usize, type_code: u8) -> RegularAnswer {
+    pub fn arg_shape(self, index: usize, type_code: u8) -> RegularAnswer {
         let Regular { arity, constructors, scalars, conclusion } = self;
-        linked::azwukran_regular_arg(arity, constructors, scalars, conclusion, index, type_code)
+        linked::azwukran_regular_arg_shape(arity, constructors, scalars, conclusion, index, type_code)
+    }
+
+    /// The set that the number type of an argument of this type at this index leaves.
+    #[inline]
+    pub fn arg_number(self, index: usize, type_code: u8) -> RegularAnswer {
+        let Regular { arity, constructors, scalars, conclusion } = self;
+        linked::azwukran_regular_arg_number(arity, constructors, scalars, conclusion, index, type_code)
     }
 
     /// The set without abstract scalars.
@@ -41,13 +48,34 @@ pub struct List<'a> {
 }
 
 impl List<'_> {
-    /// Writes the mask of the members that an argument of this type at this index leaves to the front of `out`.
+    /// Writes the mask of the members that the shape of an argument of this type at this index leaves to the front of
+    /// `out`.
     #[inline]
-    pub fn arg(self, index: usize, type_code: u8, out: &mut [u8]) -> MaskAnswer {
+    pub fn arg_shape(self, index: usize, type_code: u8, out: &mut [u8]) -> MaskAnswer {
         let List { rules, members } = self;
         // Safety: three slices with their lengths, the last borrowed to be written.
         unsafe {
-            linked::azwukran_list_arg(
+            linked::azwukran_list_arg_shape(
+                rules.as_ptr(),
+                rules.len(),
+                members.as_ptr(),
+                members.len(),
+                index,
+                type_code,
+                out.as_mut_ptr(),
+                out.len(),
+            )
+        }
+    }
+
+    /// Writes the mask of the members that the number type of an argument of this type at this index leaves to the front
+    /// of `out`.
+    #[inline]
+    pub fn arg_number(self, index: usize, type_code: u8, out: &mut [u8]) -> MaskAnswer {
+        let List { rules, members } = self;
+        // Safety: as for `arg_shape`.
+        unsafe {
+            linked::azwukran_list_arg_number(
                 rules.as_ptr(),
                 rules.len(),
                 members.as_ptr(),
@@ -64,7 +92,7 @@ impl List<'_> {
     #[inline]
     pub fn concrete_only(self, out: &mut [u8]) -> MaskAnswer {
         let List { rules, members } = self;
-        // Safety: as for `arg`.
+        // Safety: as for `arg_shape`.
         unsafe {
             linked::azwukran_list_concrete_only(
                 rules.as_ptr(),

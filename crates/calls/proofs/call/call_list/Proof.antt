@@ -14,8 +14,8 @@ stepped-requires c κs = search needs
 enum-told : tie.Need-enum-told
 enum-told c = search needs
 
-enum-known-operand : tie.Need-enum-known-operand
-enum-known-operand c = search needs
+enum-known-part : tie.Need-enum-known-part
+enum-known-part c = search needs
 
 enum-known-rules : tie.Need-enum-known-rules
 enum-known-rules c = search needs
@@ -33,7 +33,7 @@ returns c = ap answered (ap (choiceBy (signatures (c .before .before .before .be
 returns-2 : tie.Need-returns-2
 returns-2 c =
     let there = c .before .before .before .before .before in
-    ap answered (ap (choiceBy (signatures (there .args .list))) (sym (c .before .operand .given .1)) ∙ c .before .before .before .stepped .ensures .choice)
+    ap answered (ap (choiceBy (signatures (there .args .list))) (sym (c .before .part .given .1)) ∙ c .before .before .before .stepped .ensures .choice)
 
 returns-3 : tie.Need-returns-3
 returns-3 c =
@@ -47,7 +47,7 @@ call-list-spec =
     (tie.spec
     stepped-requires
     enum-told
-    enum-known-operand
+    enum-known-part
     enum-known-rules
     first-of-requires
     returns

@@ -1,8 +1,10 @@
 -- `single` meets its contract, case by case.
 -- Assumes nothing.
-use mathlib.Core.Path.{sym, ap, subst}
+use mathlib.Core.Path.{sym, ap, _∙_, subst}
 use Prim.Native.Nat.{_+_, _^_, _<_}
 use native.Mathlib.Omega.{arith}
+use Rattle.scalars.specs.Paper.{Paper, refusal, number, place}
+use Rattle.lists.specs.ChosenPaper.{noChoice}
 use Rattle.calls.specs.OutcomePaper.{outcomePaper}
 use Rattle.calls.specs.private.Steps.{OutcomePlaced}
 use borrow.Author.Needs.{needs}
@@ -18,8 +20,11 @@ enum-told c = search needs
 enum-known-outcome-2 : tie.Need-enum-known-outcome-2
 enum-known-outcome-2 c = search needs
 
-add-t6 : tie.Need-add-t6
-add-t6 c = let h : 1 + c .before .outcome2 .given .0 .0 < 2 ^ 64 = subst OutcomePlaced (c .before .outcome2 .given .1) (c .before .before .before .pre) in omega arith
+add-none-left : tie.Need-add-none-left
+add-none-left c = let h : 1 + c .before .outcome2 .given .0 .1 .0 < 2 ^ 64 = subst OutcomePlaced (c .before .outcome2 .given .1) (c .before .before .before .pre) in omega arith
+
+none-left-requires : tie.Need-none-left-requires
+none-left-requires c κs = search needs
 
 enum-told-2 : tie.Need-enum-told-2
 enum-told-2 c = search needs
@@ -31,7 +36,7 @@ returns-2 : tie.Need-returns-2
 returns-2 c = sym (ap outcomePaper (c .enum-told .given .1))
 
 returns-3 : tie.Need-returns-3
-returns-3 c = sym (ap outcomePaper (c .before .outcome2 .given .1))
+returns-3 c = ap (λ (q : Paper). refusal (number q) (place q) noChoice) (c .none-left .ensures) ∙ sym (ap outcomePaper (c .before .before .outcome2 .given .1))
 
 returns-4 : tie.Need-returns-4
 returns-4 c = sym (ap outcomePaper (c .enum-told2 .given .1))
@@ -43,7 +48,8 @@ single-spec =
     enum-known-outcome
     enum-told
     enum-known-outcome-2
-    add-t6
+    add-none-left
+    none-left-requires
     enum-told-2
     returns
     returns-2

@@ -14,12 +14,12 @@ use Rattle.worksheet.proofs.one_call.type_call.Statement.{statement}
 use Rattle.worksheet.proofs.one_call.type_call.Tie as tie
 
 -- the operand after which no rule is left is one of the call's
-here : (c : tie.After-known-told) → c .before .k .given .0 .0 < c .before .before .before .before .before .before .before .before .args .count
+here : (c : tie.After-known-told) → c .before .part .given .0 .1 .0 < c .before .before .before .before .before .before .before .before .args .count
 here c =
     let start = c .before .before .before .before .before .before .before .before in
     operand-here (start .args .function) (start .args .count) (start .args .at) (start .args .past) (start .args .switch) (start .args .stack)
-    (start .args .sheet) (start .pre .enough) (c .before .k .given .0 .0)
-    (sym (ap outcomePaper (c .before .k .given .1)) ∙ c .before .before .before .outcome-of .ensures)
+    (start .args .sheet) (start .pre .enough) (c .before .part .given .0 .0) (c .before .part .given .0 .1 .0)
+    (sym (ap outcomePaper (c .before .part .given .1)) ∙ c .before .before .before .outcome-of .ensures)
 
 sub-from : tie.Need-sub-from
 sub-from c = search needs
@@ -44,8 +44,8 @@ enum-told c = search needs
 refused-requires : tie.Need-refused-requires
 refused-requires c κs = search needs
 
-enum-known-k : tie.Need-enum-known-k
-enum-known-k c = search needs
+enum-known-part : tie.Need-enum-known-part
+enum-known-part c = search needs
 
 add-operand : tie.Need-add-operand
 add-operand c = omega (arith, here c)
@@ -55,6 +55,9 @@ mul-start c = omega (arith, here c)
 
 array-read-start : tie.Need-array-read-start
 array-read-start c = omega (arith, here c)
+
+none-left-requires : tie.Need-none-left-requires
+none-left-requires c κs = search needs
 
 refused-requires-2 : tie.Need-refused-requires-2
 refused-requires-2 c κs = search needs
@@ -90,11 +93,11 @@ returns c = rw (c .refused .ensures)
 
 returns-2 : tie.Need-returns-2
 returns-2 c =
-    let there = c .before .before .before .before .before .before .before .before .before in
-    let told = c .before .before in
+    let told = c .before .before .before in
+    let start = told .before .before .before .before .before .before .before in
     rw (c .refused2 .ensures)
-    (call-none-after _ _ _ _ _ _ _ (there .pre .enough) (told .k .given .0 .0)
-    (sym (ap outcomePaper (told .k .given .1)) ∙ told .before .before .outcome-of .ensures))
+    (call-none-after _ _ _ _ _ _ _ (start .pre .enough) (told .part .given .0 .0) (told .part .given .0 .1 .0) _ (c .before .none-left .ensures)
+    (sym (ap outcomePaper (told .part .given .1)) ∙ told .before .before .outcome-of .ensures))
 
 returns-3 : tie.Need-returns-3
 returns-3 c = rw (c .refused3 .ensures)
@@ -117,10 +120,11 @@ type-call-spec =
     outcome-of-requires
     enum-told
     refused-requires
-    enum-known-k
+    enum-known-part
     add-operand
     mul-start
     array-read-start
+    none-left-requires
     refused-requires-2
     enum-told-2
     refused-requires-3

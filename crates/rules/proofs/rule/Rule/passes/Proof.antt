@@ -5,7 +5,7 @@ use Rattle.rules.proofs.rule.Rule.passes.Statement.{statement}
 use Rattle.rules.proofs.rule.Rule.passes.Tie as tie
 
 returns : tie.Need-returns
-returns c = rw (c .before .before .keep .given .1) (c .takes .ensures)
+returns c = rw (c .before .before .keep .given .1) (c .fits2 .ensures)
 
 returns-2 : tie.Need-returns-2
 returns-2 c = rw (c .before .enum-told .given .1) (c .concrete .ensures)
