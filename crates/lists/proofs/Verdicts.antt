@@ -51,8 +51,11 @@ accepted-tests l e = passed (every knownRule (held l)) (ltb (l .members) (2 ^ l 
 pub accepted-few : (l : List) → verdictOf l ≡ accepted [] → l .len ≤ mostRules
 accepted-few l e = leb-true _ _ (accepted-tests l e .1)
 
+pub accepted-within : (l : List) → verdictOf l ≡ accepted [] → l .members < 2 ^ l .len
+accepted-within l e = ltb-true _ _ (accepted-tests l e .0)
+
 pub accepted-valid : (l : List) → verdictOf l ≡ accepted [] → length (l .rules) ≡ mostRules → Valid (cleanList l)
-accepted-valid l e long = clean-valid l long (accepted-few l e) (ltb-true _ _ (accepted-tests l e .0))
+accepted-valid l e long = clean-valid l long (accepted-few l e) (accepted-within l e)
 
 -- ---- the answer
 

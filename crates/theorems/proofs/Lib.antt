@@ -25,6 +25,7 @@ pub mod Expands
 pub mod Preferred
 pub mod Alike
 pub mod Operations
+pub mod BothSteps
 pub mod Agreement
 -- calls
 pub mod Choices

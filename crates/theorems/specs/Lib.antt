@@ -1,5 +1,5 @@
 -- All that is claimed: the demands as theorems, each stated in English at the head of its file. Of the public functions, said of every answer
--- that their contracts permit: OneAnswer, Singleton, Combination, Consensus, Agreement over Operations, Calls (Demand 2), Expressions (Demand 3),
+-- that their contracts permit: OneAnswer, Singleton, Combination, Consensus, BothSteps and Agreement over Operations, Calls (Demand 2), Expressions (Demand 3),
 -- TextFunctions. Of the definitions that the contracts cite, over any database of rules: Expands, Steps, Demand2, FirstPass, Demand3, Readings;
 -- of texts, Texts and TextReadings. The others are words that statements share.
 pub mod Contracts
@@ -11,6 +11,7 @@ pub mod Consensus
 pub mod Operations
 pub mod Expands
 pub mod Steps
+pub mod BothSteps
 pub mod Agreement
 pub mod Taking
 pub mod Demand2
