@@ -34,6 +34,7 @@ pub mod Operands
 pub mod Demand2
 pub mod OneLength
 pub mod FunctionSets
+pub mod CallSteps
 pub mod Calls
 -- expressions and their worksheets
 pub mod Levels
