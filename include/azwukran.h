@@ -19,6 +19,8 @@
  *              for VEC2 to VEC4, and f 0 for F32, 1 for F16, 2 for F64.
  *   Functions  0 to 78, in the order in which naga's mathfunction.rs first names them: Abs 0, Clamp 4, Sin 5, Pow 32,
  *              Modf 61, Mix 72, Transpose 74, InsertBits 78.
+ *   Marks      0 constant, 1 measured. An operand is a type and a mark. A measured one is never abstract, that is, of
+ *              ABSTRACT_INT or ABSTRACT_FLOAT, as a scalar, a vector or a matrix. A call is measured if any of its operands is.
  *   255        none.
  *
  * A function's full listing is its rules in naga's order; an index counts in it from 0.
@@ -27,8 +29,7 @@
  *
  * Every function answers a structure by value. Its `number` is the refusal, 0 where the question was accepted, and its
  * `place` says where, 0 where the question was accepted. On a refusal the other fields are 255, but for a Regular set, which
- * is then the empty one, and the bytes of `out` keep theirs. Fields said to be kept free are always 255; a later version
- * of the library may use them.
+ * is then the empty one, and the bytes of `out` keep theirs.
  *
  * Masks
  *
@@ -63,14 +64,14 @@ enum azwukran_number {
     /* An argument of a call has the wrong shape: of the rules that take those before it, none has its constructor there.
      * Place: 1 + its index; in an expression, the offset of its first byte. */
     AZWUKRAN_SHAPE = 6,
-    /* An unknown function, type code, scalar, index, set bit or conclusion. Place: 0 for the function, for the base of a
-     * consensus, or for a set; 1 + index for a type or a component; 1 for the index of a rule; in an expression, the offset
-     * of the byte. */
+    /* An unknown function, type code, mark, scalar, index, set bit or conclusion. Place: 0 for the function, for the base of a
+     * consensus, or for a set; 1 + index for an operand's type or mark, or a component; 1 for the index of a rule; in an
+     * expression, the offset of the byte. */
     AZWUKRAN_UNKNOWN = 7,
     /* An expression is cut short, has an unknown tag, or has bytes left over; or a List's last rule is cut short, or its
-     * mask. Place: the offset. */
+     * mask. Place: the offset. Or a call has not as many marks as types. Place: the smaller of the two numbers. */
     AZWUKRAN_MALFORMED = 8,
-    /* An expression has a 65th node or a node at depth 17. Place: that node's offset; in a text, its name's. */
+    /* An expression has a 65th node or a node at depth 17. Place: that node's offset; in a text, that of its first run. */
     AZWUKRAN_TOO_LARGE = 9,
     /* A worksheet, a mask, an expression or a text is longer than the bytes lent for it. Place: the bytes needed. */
     AZWUKRAN_ROOM = 10,
@@ -80,14 +81,17 @@ enum azwukran_number {
     AZWUKRAN_DISAGREE = 12,
     /* A Modf or Frexp result is wanted for a matrix, or for a scalar other than F32, F16, F64. Place: 0. */
     AZWUKRAN_OUTSIDE = 13,
-    /* A run of bytes in a text is no name of a function or a type, where one is wanted. Place: its offset. */
+    /* A run of bytes in a text is no name of a function or a type, nor `measured`, where a node may begin. Place: its
+     * offset. */
     AZWUKRAN_UNKNOWN_RUN = 14,
     /* A text has more than 4,096 bytes, or something else in it is misplaced or missing. Place: 4096; the offset of what is
      * misplaced; the text's length for what is missing at its end. */
     AZWUKRAN_MISPLACED = 15,
     /* An argument of a call has the wrong number type: rules are left with its shape, and none of them has a scalar there that
      * its own converts to. Place: as for 6. */
-    AZWUKRAN_NUMBER_TYPE = 16
+    AZWUKRAN_NUMBER_TYPE = 16,
+    /* A measured operand has an abstract type. Place: 1 + its index; in an expression, the offset of its type. */
+    AZWUKRAN_MEASURED_ABSTRACT = 17
 };
 
 /* A chosen rule. */
@@ -97,7 +101,7 @@ typedef struct azwukran_chosen_answer {
     uint8_t arguments[4]; /* The argument types, 255 where it has none. */
     uint8_t count;        /* The number of arguments. */
     uint8_t result;
-    uint8_t mark; /* Kept free for: constant or measured. */
+    uint8_t mark; /* The mark of a call's result. 255 where no call was asked, as of a List made by hand. */
     size_t place;
 } azwukran_chosen_answer;
 
@@ -129,11 +133,11 @@ typedef struct azwukran_consensus_answer {
     size_t place;
 } azwukran_consensus_answer;
 
-/* The type of an expression. */
+/* The type and the mark of an expression. */
 typedef struct azwukran_type_answer {
     uint8_t number;
     uint8_t type;
-    uint8_t mark;  /* Kept free for: constant or measured. */
+    uint8_t mark;
     size_t length; /* How many bytes the worksheet takes. */
     size_t place;
 } azwukran_type_answer;
@@ -149,7 +153,7 @@ typedef struct azwukran_text_answer {
 typedef struct azwukran_run_answer {
     uint8_t number;  /* 0: to its end. AZWUKRAN_STOPPED: not. */
     uint8_t top;     /* The type of the topmost operand, 255 where none is left. */
-    uint8_t mark;    /* Kept free for: the topmost operand is constant or measured. */
+    uint8_t mark;    /* Its mark, 255 where none is left. */
     size_t operands; /* How many operands are left. */
     size_t place;    /* The line where it stopped, counted from 0; 0 at the end. */
 } azwukran_run_answer;
@@ -160,21 +164,26 @@ typedef struct azwukran_mask_answer {
     size_t place;
 } azwukran_mask_answer;
 
+/* The marks of operands and results. */
+enum { AZWUKRAN_CONSTANT = 0, AZWUKRAN_MEASURED = 1 };
+
 /* Who gave the scalar of a consensus. */
 enum { AZWUKRAN_BY_BASE = 0, AZWUKRAN_BY_COMPONENT = 1 };
 
 /* The number of a run that stopped. */
 enum { AZWUKRAN_STOPPED = 255 };
 
-/* Resolves a call: the rule that `function` prefers for operands of these types (0 to 180). concrete_only is 0 or 1; with
- * 1, rules with an abstract argument are dropped after the arguments. Refusals, tested in this order: 7, 5, then 6 and 16 for
- * each operand in turn, then 1. */
-azwukran_chosen_answer azwukran_call(uint8_t function, const uint8_t *operands, size_t n, uint8_t concrete_only);
+/* Resolves a call: the rule that `function` prefers for operands of these types (0 to 180) and marks (0 or 1), and the mark of
+ * its result. n and m are the numbers of types and of marks, which are equal. concrete_only is 0 or 1; with 1, and where an
+ * operand is measured, rules with an abstract argument are dropped after the arguments. Refusals, tested in this order: 7 for
+ * the function; 8 if n is not m; 7 and 17 for each operand in turn; 5; 6 and 16 for each operand in turn; 1. */
+azwukran_chosen_answer azwukran_call(uint8_t function, const uint8_t *types, size_t n, const uint8_t *marks, size_t m,
+                                     uint8_t concrete_only);
 
 /* The rules that survive the same call, as a mask over the function's full listing, written to the front of `out`, which has
  * `room` bytes. Refused as the call is, then 10 for room. No function has more than 63 rules, so 8 bytes suffice. */
-azwukran_mask_answer azwukran_survivors(uint8_t function, const uint8_t *operands, size_t n, uint8_t concrete_only,
-                                        uint8_t *out, size_t room);
+azwukran_mask_answer azwukran_survivors(uint8_t function, const uint8_t *types, size_t n, const uint8_t *marks, size_t m,
+                                        uint8_t concrete_only, uint8_t *out, size_t room);
 
 /* One rule of a function's full listing. Refusal 7 at place 0 for an unknown function, at place 1 for an unknown index. */
 azwukran_rule_answer azwukran_rule(uint8_t function, uint8_t index);
@@ -185,33 +194,37 @@ azwukran_rule_answer azwukran_rule(uint8_t function, uint8_t index);
 azwukran_consensus_answer azwukran_consensus(uint8_t base, const uint8_t *components, size_t n);
 
 /* Types an expression of n bytes and writes its worksheet to the front of `out`, which has `room` bytes; 508 always suffice.
- * An expression is in prefix form: a leaf is 0, type (0 to 156); a call is 1, function, number of arguments, and then its
- * arguments. concrete_only (0 or 1) concerns every call. A worksheet is lines of four bytes: 0, type, 0, 0 pushes a leaf;
- * 2, depth from the top, type, 0 converts an operand; 1, function, index, number of arguments calls. Refusals: 8, 9, 7 in the
- * order of the bytes; then, call by call, 5, 6 and 16 for each argument in turn, 1; then 10. An accepted worksheet is the
- * first `length` bytes of `out`, and the bytes behind it keep theirs. To learn the length without lending any, ask with room
- * 0: an expression that is right but for that is refused by 10, with the length as its place. */
+ * An expression is in prefix form: a constant leaf is 0, type (0 to 156), a measured one 2, type; a call is 1, function, number
+ * of arguments, and then its arguments. concrete_only (0 or 1) concerns every call, and counts as 1 for a measured one. A
+ * worksheet is lines of four bytes: 0, type, mark, 0 pushes a leaf; 2, depth from the top, type, 0 converts an operand; 1,
+ * function, index, number of arguments calls. Refusals: 8, 9, 7, 17 in the order of the bytes, 7 before 17 at one byte; then,
+ * call by call, 5, 6 and 16 for each argument in turn, 1; then 10. An accepted worksheet is the first `length` bytes of `out`,
+ * and the bytes behind it keep theirs. To learn the length without lending any, ask with room 0: an expression that is right
+ * but for that is refused by 10, with the length as its place. */
 azwukran_type_answer azwukran_type(const uint8_t *bytes, size_t n, uint8_t concrete_only, uint8_t *out, size_t room);
 
 /* Texts
  *
- * The text of an expression is that of its root. A leaf's is the name of its type; a call's is the name of its function,
- * and then the texts of its arguments, with commas between them, in one pair of parentheses, which may be empty. Scalars are
- * named abstract-int, abstract-float, i32, i16, i64, u32, u16, u64, f32, f16, f64 and bool, others as vec3<f32> and
- * mat2x3<f16>, and 156 is other. A function's name is naga's with the first letter made small, as faceForward. A token is
- * ( or ) or , or a longest run of other bytes but space. Spaces may stand before, between and behind tokens. */
+ * The text of an expression is that of its root. A leaf's is the name of its type, and, if it is measured, the run `measured`
+ * before that; a call's is the name of its function, and then the texts of its arguments, with commas between them, in one pair
+ * of parentheses, which may be empty. Scalars are named abstract-int, abstract-float, i32, i16, i64, u32, u16, u64, f32, f16,
+ * f64 and bool, others as vec3<f32> and mat2x3<f16>, and 156 is other. A function's name is naga's with the first letter made
+ * small, as faceForward. A token is ( or ) or , or a longest run of other bytes but space. Spaces may stand before, between and
+ * behind tokens, and one must stand behind `measured`. */
 
 /* Reads a text of n bytes and writes the expression's bytes to the front of `out`, which has `room` bytes; 192 always
  * suffice. Refusals: 15 for a text above 4,096 bytes; then the first in the text of 9, 14 and 15, with 9 before 14 at one
- * name; then 10. Nothing is typed: whether the functions take their arguments is for azwukran_type to say. */
+ * name; then 10. What stands behind `measured` and is no type's name is refused by 15. Nothing is typed: whether the functions
+ * take their arguments, and whether a measured leaf is abstract, is for azwukran_type to say. */
 azwukran_text_answer azwukran_read_text(const uint8_t *text, size_t n, uint8_t *out, size_t room);
 
 /* Writes the text of an expression of n bytes to the front of `out`, which has `room` bytes; 1,536 always suffice. A space
- * stands behind each comma and nowhere else, and no zero byte is added. Reading the text gives back the bytes. Refusals: 8,
- * 9, 7 in the order of the bytes, as for azwukran_type, then 10. */
+ * stands behind each comma and each `measured` and nowhere else, and no zero byte is added. Reading the text gives back the
+ * bytes. Refusals: 8, 9, 7, 17 in the order of the bytes, as for azwukran_type, then 10. */
 azwukran_text_answer azwukran_write_text(const uint8_t *bytes, size_t n, uint8_t *out, size_t room);
 
-/* Runs a worksheet of n bytes on the strict machine, which stops at the first line that is not exactly right. */
+/* Runs a worksheet of n bytes on the strict machine, which stops at the first line that is not exactly right: also at the leaf
+ * line of a measured abstract operand, and at a call with a measured operand by a rule with an abstract argument. */
 azwukran_run_answer azwukran_run(const uint8_t *sheet, size_t n);
 
 /* Sets made by hand

@@ -12,7 +12,7 @@ use crate::expressions::{self, ENOUGH_ROOM};
 use crate::generate::{self, Accepted, Generator};
 use crate::generate_texts::TextGenerator;
 use crate::machine::LINE;
-use crate::numbering::{self, FUNCTIONS, NONE, OPAQUE, SCALAR_COUNT};
+use crate::numbering::{self, constants, FUNCTIONS, NONE, OPAQUE, SCALAR_COUNT};
 use crate::ours::{self, List, Masked, Regular, LENT};
 use crate::random::Random;
 use crate::texts::{self, Names, ENOUGH_TEXT};
@@ -37,7 +37,8 @@ pub fn bench(seed: u64) {
     bench_texts(seed);
 }
 
-/// Full resolution: the function's overloads are built, every argument is tried, the preferred rule is asked for.
+/// Full resolution: the function's overloads are built, every argument is tried, the preferred rule is asked for. Ours has
+/// the marks of the operands besides, all of them constants.
 fn bench_calls(rules: &Crate, seed: u64) {
     let accepted = generate::accepted_calls(rules);
     let mut random = Random::new(seed);
@@ -67,7 +68,7 @@ fn time_calls<'a>(rules: &Crate, name: &str, draw: &mut dyn FnMut() -> &'a Accep
             let _ = black_box(rules.preferred(call.function, &call.operands, false));
         },
         |call| {
-            black_box(ours::call(call.function, &call.operands, false));
+            black_box(ours::call(call.function, &call.operands, constants(call.operands.len()), false));
         },
     );
 }

@@ -1,11 +1,12 @@
-//! Calls on both sides: every tuple of operand codes where they are few enough, and a sample of the longer ones.
+//! Calls on both sides: every tuple of operand codes where they are few enough, and a sample of the longer ones, with
+//! constant operands and with measured ones.
 
 use naga::proc::OverloadSet;
 
-use crate::crate_side::{Crate, Outcome};
+use crate::crate_side::{operand_fault, Crate, Outcome};
 use crate::effort::Effort;
-use crate::generate::{any_code, next_tuple, Accepted};
-use crate::numbering::{FUNCTIONS, LAST_CODE};
+use crate::generate::{any_code, any_marks, next_tuple, Accepted};
+use crate::numbering::{constants, is_abstract, CONSTANT, FUNCTIONS, LAST_CODE, MEASURED, MOST_OPERANDS, SCALAR_COUNT};
 use crate::ours::{self, Refused};
 use crate::random::Random;
 use crate::tally::{beginning, grouped, Tally};
@@ -13,16 +14,26 @@ use crate::tally::{beginning, grouped, Tally};
 /// The type codes of operands and components, all of them.
 const CODES: std::ops::RangeInclusive<u8> = 0..=LAST_CODE;
 
+/// The longest tuple of those that are all asked: one operand more than any function takes.
+const LONGEST: usize = 5;
+
+/// Marks by the bits of a number: bit k is set where operand k is measured.
+fn pattern(bits: usize) -> [u8; LONGEST] {
+    std::array::from_fn(|k| if bits >> k & 1 == 1 { MEASURED } else { CONSTANT })
+}
+
 /// The comparison of calls of known functions with known types.
 struct Calls<'a> {
     rules: &'a Crate,
     effort: &'a Effort,
     random: Random,
     tally: Tally,
+    /// How many of the calls have a measured operand.
+    measured: u64,
 }
 
 pub fn compare_calls(rules: &Crate, accepted: &[Accepted], effort: &Effort, seed: u64) -> u64 {
-    let mut calls = Calls { rules, effort, random: Random::new(seed), tally: Tally::new("calls") };
+    let mut calls = Calls { rules, effort, random: Random::new(seed), tally: Tally::new("calls"), measured: 0 };
     for function in 0..FUNCTIONS.len() as u8 {
         calls.compare_function(function);
         if rules.arity(function) + 1 > effort.exhaustive {
@@ -32,10 +43,13 @@ pub fn compare_calls(rules: &Crate, accepted: &[Accepted], effort: &Effort, seed
     }
     calls.tally.sum_up(&format!(
         "{} functions, each tuple of codes 0 to {LAST_CODE} with both switches: all to length {}, \
-         {} accepted ones and a sample beyond",
+         {} accepted ones and a sample beyond; {} with a measured operand: every pattern of marks over the accepted tuples \
+         and over all to length {}, and a sample beyond",
         FUNCTIONS.len(),
         effort.exhaustive,
         grouped(accepted.len() as u64),
+        grouped(calls.measured),
+        effort.patterns,
     ))
 }
 
@@ -66,10 +80,7 @@ impl Calls<'_> {
             } else if operands.len() < arity {
                 self.walk(function, &left, operands);
             } else {
-                for concrete_only in [false, true] {
-                    let expected = self.rules.concluded(function, &left, concrete_only);
-                    self.check(function, operands, concrete_only, expected);
-                }
+                self.check_accepted(function, operands, &left);
             }
             operands.pop();
         }
@@ -82,7 +93,7 @@ impl Calls<'_> {
         operands.resize(length, 0);
         if length <= self.effort.exhaustive || length - beginning.len() <= 1 {
             loop {
-                self.check_both(function, &operands, expected);
+                self.check_refused(function, &operands, expected);
                 if !next_tuple(&mut operands[beginning.len()..]) {
                     break;
                 }
@@ -92,7 +103,7 @@ impl Calls<'_> {
                 for operand in &mut operands[beginning.len()..] {
                     *operand = any_code(&mut self.random);
                 }
-                self.check_both(function, &operands, expected);
+                self.check_refused(function, &operands, expected);
             }
         }
     }
@@ -109,35 +120,76 @@ impl Calls<'_> {
                 3 => {}
                 _ => operands[place] = any_code(&mut self.random),
             }
+            let marks = if self.random.once_in(2) {
+                constants(operands.len()).to_vec()
+            } else {
+                any_marks(&mut self.random, &operands)
+            };
             let concrete_only = self.random.once_in(2);
-            let expected = self.rules.call(function, &operands, concrete_only);
-            self.check(function, &operands, concrete_only, expected);
+            let expected = self.rules.call(function, &operands, &marks, concrete_only);
+            self.check(function, &operands, &marks, concrete_only, expected);
         }
     }
 
-    fn check_both(&mut self, function: u8, operands: &[u8], expected: Outcome) {
-        self.check(function, operands, false, expected);
-        self.check(function, operands, true, expected);
+    /// A tuple whose types the crate accepts, by the rules `left`: every pattern of marks, both switches.
+    fn check_accepted<S: OverloadSet>(&mut self, function: u8, types: &[u8], left: &S) {
+        for bits in 0..1 << types.len() {
+            let marks = &pattern(bits)[..types.len()];
+            for concrete_only in [false, true] {
+                let expected = operand_fault(types, marks)
+                    .unwrap_or_else(|| self.rules.concluded(function, left, marks, concrete_only));
+                self.check(function, types, marks, concrete_only, expected);
+            }
+        }
     }
 
-    fn check(&mut self, function: u8, operands: &[u8], concrete_only: bool, expected: Outcome) {
-        check_call(&mut self.tally, function, operands, concrete_only, expected);
+    /// A tuple whose types the crate refuses, whatever the switch and the marks are: constants, both switches; and every
+    /// pattern of marks or, of longer tuples, now and then some pattern.
+    fn check_refused(&mut self, function: u8, types: &[u8], expected: Outcome) {
+        let measured = |marks: &[u8]| operand_fault(types, marks).unwrap_or(expected);
+        for concrete_only in [false, true] {
+            self.check(function, types, constants(types.len()), concrete_only, expected);
+        }
+        if types.len() <= self.effort.patterns {
+            for bits in 1..1 << types.len() {
+                let marks = &pattern(bits)[..types.len()];
+                for concrete_only in [false, true] {
+                    self.check(function, types, marks, concrete_only, measured(marks));
+                }
+            }
+        } else if self.random.once_in(self.effort.marked) {
+            let marks = any_marks(&mut self.random, types);
+            let concrete_only = self.random.once_in(2);
+            self.check(function, types, &marks, concrete_only, measured(&marks));
+        }
+    }
+
+    fn check(&mut self, function: u8, types: &[u8], marks: &[u8], concrete_only: bool, expected: Outcome) {
+        self.measured += u64::from(marks.contains(&MEASURED));
+        check_call(&mut self.tally, function, types, marks, concrete_only, expected);
     }
 }
 
-fn check_call(tally: &mut Tally, function: u8, operands: &[u8], concrete_only: bool, expected: Outcome) {
+fn check_call(tally: &mut Tally, function: u8, types: &[u8], marks: &[u8], concrete_only: bool, expected: Outcome) {
     let answered = Outcome {
-        call: ours::call(function, operands, concrete_only),
-        survivors: ours::survivors(function, operands, concrete_only, ours::LENT),
+        call: ours::call(function, types, marks, concrete_only),
+        survivors: ours::survivors(function, types, marks, concrete_only, ours::LENT),
     };
     tally.check(expected, answered, || {
         let name = FUNCTIONS.get(usize::from(function)).map_or("unknown".to_string(), |known| format!("{known:?}"));
         format!(
-            "function {function} ({name}), {} operands {:?}, concrete-only {concrete_only}",
-            operands.len(),
-            beginning(operands)
+            "function {function} ({name}), {} types {:?}, {} marks {:?}, concrete-only {concrete_only}",
+            types.len(),
+            beginning(types),
+            marks.len(),
+            beginning(marks)
         )
     });
+}
+
+/// The marks of operands all of which are measured that may be.
+fn most_measured(types: &[u8]) -> Vec<u8> {
+    types.iter().map(|&code| if is_abstract(code) { CONSTANT } else { MEASURED }).collect()
 }
 
 /// Survivors with less room than their mask takes: refused by 10, after the call's own refusals.
@@ -145,65 +197,137 @@ pub fn compare_room(rules: &Crate, accepted: &[Accepted]) -> u64 {
     let mut tally = Tally::new("survivors without room");
     for call in accepted {
         let needed = ours::mask_bytes(rules.listing(call.function).len());
-        for concrete_only in [false, true] {
-            let expected = rules.call(call.function, &call.operands, concrete_only).survivors;
+        let marks = most_measured(&call.operands);
+        let constants = constants(call.operands.len());
+        for (marks, concrete_only) in [(constants, false), (constants, true), (&marks[..], false), (&marks[..], true)] {
+            let expected = rules.call(call.function, &call.operands, marks, concrete_only).survivors;
             for room in 0..=ours::LENT {
                 let expected = if room < needed && expected.answer.number == 0 {
                     ours::Masked::refused(10, needed)
                 } else {
                     expected
                 };
-                let answered = ours::survivors(call.function, &call.operands, concrete_only, room);
+                let answered = ours::survivors(call.function, &call.operands, marks, concrete_only, room);
                 tally.check(expected, answered, || {
                     format!(
-                        "function {}, operands {:?}, concrete-only {concrete_only}, room {room}",
+                        "function {}, types {:?}, marks {marks:?}, concrete-only {concrete_only}, room {room}",
                         call.function, call.operands
                     )
                 });
             }
         }
     }
-    tally.sum_up(&format!("each accepted call, both switches, room 0 to {}", ours::LENT))
+    tally.sum_up(&format!(
+        "each accepted call, of constants and with all measured that may be, both switches, room 0 to {}",
+        ours::LENT
+    ))
 }
 
-/// Calls of unknown functions, with unknown types, and of very many operands: what is tested before the count.
-pub fn compare_unknown(rules: &Crate, accepted: &[Accepted]) -> u64 {
+/// Marks that are none.
+const NO_MARKS: [u8; 7] = [2, 3, 4, 127, 128, 254, 255];
+
+/// How many times the operands of each accepted call are spoilt.
+const SPOILT: usize = 20;
+
+/// Calls of unknown functions, with unknown types and marks, with types or marks left over, with measured operands that are
+/// abstract, and of very many operands: what is tested before the count.
+pub fn compare_unknown(rules: &Crate, accepted: &[Accepted], seed: u64) -> u64 {
     let mut tally = Tally::new("calls with unknown numbers");
-    let mut check = |function: u8, operands: &[u8]| {
+    let mut check = |function: u8, types: &[u8], marks: &[u8]| {
         for concrete_only in [false, true] {
-            let expected = rules.call(function, operands, concrete_only);
-            check_call(&mut tally, function, operands, concrete_only, expected);
+            let expected = rules.call(function, types, marks, concrete_only);
+            check_call(&mut tally, function, types, marks, concrete_only, expected);
         }
     };
     for function in FUNCTIONS.len() as u8..=u8::MAX {
-        for operands in [&[][..], &[0], &[8, 8], &[LAST_CODE + 1], &[0, 0, u8::MAX]] {
-            check(function, operands);
+        for types in [&[][..], &[0], &[8, 8], &[LAST_CODE + 1], &[0, 0, u8::MAX]] {
+            check(function, types, constants(types.len()));
+            check(function, types, &[MEASURED]);
+            check(function, types, &[u8::MAX]);
         }
     }
-    for call in accepted {
-        for place in 0..call.operands.len() {
-            for unknown in LAST_CODE + 1..=u8::MAX {
-                let mut operands = call.operands.clone();
-                operands[place] = unknown;
-                check(call.function, &operands);
-                operands.push(unknown);
-                check(call.function, &operands);
+    for function in 0..=u8::MAX {
+        for types in 0..=LONGEST + 1 {
+            for marks in 0..=LONGEST + 1 {
+                for (code, mark) in
+                    [(8, CONSTANT), (8, MEASURED), (0, MEASURED), (LAST_CODE + 1, CONSTANT), (8, u8::MAX)]
+                {
+                    check(function, &vec![code; types], &vec![mark; marks]);
+                }
             }
         }
     }
-    for length in [6, 64, 255, 256, 257, 1000, 65_536, 70_001] {
-        let mut operands = vec![8; length];
-        for function in [0, 4, 78] {
-            check(function, &operands);
+    let mut random = Random::new(seed);
+    for (number, call) in accepted.iter().enumerate() {
+        let function = call.function;
+        let marks = constants(call.operands.len());
+        let first = number == 0 || accepted[number - 1].function != function;
+        for place in 0..call.operands.len() {
+            for unknown in LAST_CODE + 1..=u8::MAX {
+                let mut types = call.operands.clone();
+                types[place] = unknown;
+                check(function, &types, marks);
+                types.push(unknown);
+                check(function, &types, constants(types.len()));
+            }
+            let every: Vec<u8> = (MEASURED + 1..=u8::MAX).collect();
+            for &unknown in if first { &every[..] } else { &NO_MARKS } {
+                let mut marks = marks.to_vec();
+                marks[place] = unknown;
+                check(function, &call.operands, &marks);
+            }
         }
-        operands[length - 1] = LAST_CODE + 1;
+        for _ in 0..SPOILT {
+            let (types, marks) = spoilt(&mut random, &call.operands);
+            check(function, &types, &marks);
+        }
+    }
+    for length in [6, 64, 255, 256, 257, 1000, 65_536, MOST_OPERANDS] {
         for function in [0, 4, 78] {
-            check(function, &operands);
+            let mut types = vec![8; length];
+            let mut marks = vec![CONSTANT; length];
+            check(function, &types, &marks);
+            check(function, &types, &marks[1..]);
+            check(function, &types[1..], &marks);
+            types[length - 1] = LAST_CODE + 1;
+            check(function, &types, &marks);
+            for mark in [MEASURED, u8::MAX] {
+                marks[length - 1] = mark;
+                for code in [0, 8, LAST_CODE + 1] {
+                    types[length - 1] = code;
+                    check(function, &types, &marks);
+                }
+            }
         }
     }
     tally.sum_up(&format!(
-        "functions {} to 255, types {} to 255 at each place of each accepted call, up to 70,001 operands",
+        "functions {} to 255, types {} to 255 and marks 2 to 255 at each place of accepted calls, as many types and marks \
+         or not, several faults at once, up to {} operands",
         FUNCTIONS.len(),
-        LAST_CODE + 1
+        LAST_CODE + 1,
+        grouped(MOST_OPERANDS as u64)
     ))
+}
+
+/// Operands of these types, some of them with faults of their own or of their marks, and now and then not as many of the
+/// one as of the other.
+fn spoilt(random: &mut Random, types: &[u8]) -> (Vec<u8>, Vec<u8>) {
+    let mut types = types.to_vec();
+    let mut marks = Vec::new();
+    for code in &mut types {
+        match random.below(6) {
+            0 => *code = LAST_CODE + 1 + random.below(75) as u8,
+            1 => *code = SCALAR_COUNT * random.below(13) as u8 + random.below(2) as u8,
+            _ => {}
+        }
+        marks.push(*random.pick(&[CONSTANT, CONSTANT, MEASURED, MEASURED, 2, u8::MAX]));
+    }
+    match random.below(10) {
+        0 => drop(types.pop()),
+        1 => drop(marks.pop()),
+        2 => types.push(any_code(random)),
+        3 => marks.push(random.below(3) as u8),
+        _ => {}
+    }
+    (types, marks)
 }

@@ -10,7 +10,7 @@ use crate::effort::{Effort, FULL, QUICK};
 use crate::expressions::{self, ENOUGH_ROOM};
 use crate::generate::{self, any_code, next_tuple, Generator};
 use crate::machine;
-use crate::numbering::{LAST_CODE, NONE, OPAQUE, SCALAR_COUNT};
+use crate::numbering::{Operand, LAST_CODE, MEASURED, NONE, OPAQUE, SCALAR_COUNT};
 use crate::ours::{self, TypeAnswer};
 use crate::random::Random;
 use crate::readings::{self, Reading};
@@ -28,7 +28,7 @@ pub fn compare(seed: u64, quick: bool) -> bool {
         compare_readings(&rules),
         compare_rules(&rules),
         compare_calls(&rules, &accepted, &effort, seed),
-        compare_unknown(&rules, &accepted),
+        compare_unknown(&rules, &accepted, seed),
         compare_room(&rules, &accepted),
         compare_sets(&rules, effort.sets, seed),
         rules.with_consensus(|asker| compare_consensus(asker, &effort, seed)),
@@ -48,7 +48,9 @@ fn compare_readings(rules: &Crate) -> u64 {
         tally.check(&printed, &of_crate, || format!("{question}, on the crate's side"));
         tally.check(&printed, &of_ours, || format!("{question}, on ours"));
     }
-    tally.sum_up("document 01's, two of who gave a scalar and two of a wrong shape, each on both sides")
+    tally.sum_up(
+        "document 01's, two of who gave a scalar, two of a wrong shape and 35 of measured operands, each on both sides",
+    )
 }
 
 /// Every function number and index, known or not.
@@ -154,7 +156,8 @@ fn panics_over_nothing(asker: &Asker) -> bool {
 fn compare_expressions(rules: &Crate, effort: &Effort, seed: u64) -> u64 {
     let mut tally = Tally::new("expressions");
     let mut generator = Generator::new(rules, seed);
-    let mut by_number = [0u64; 17];
+    let mut by_number = [0u64; 18];
+    let mut measured = 0;
     for _ in 0..effort.expressions {
         let bytes = generator.any();
         for concrete_only in [false, true] {
@@ -168,7 +171,9 @@ fn compare_expressions(rules: &Crate, effort: &Effort, seed: u64) -> u64 {
                 check_typing(&mut tally, &bytes, concrete_only, room, fill, (typed, sheet));
             }
             if answer.0.number == 0 {
-                let ended = ours::ended(1, answer.0.type_code);
+                let result = Operand { code: answer.0.type_code, measured: answer.0.mark == MEASURED };
+                measured += u64::from(result.measured);
+                let ended = ours::ended(1, Some(result));
                 let runs = (machine::run(rules, &answer.1), ours::run(&answer.1));
                 tally.check((ended, ended), runs, || format!("the worksheet {:?} of {bytes:?}", answer.1));
             }
@@ -179,8 +184,10 @@ fn compare_expressions(rules: &Crate, effort: &Effort, seed: u64) -> u64 {
         .map(|number| format!("{number}: {}", grouped(by_number[number])))
         .collect();
     tally.sum_up(&format!(
-        "{} expressions, both switches, four buffers each, accepted worksheets run on both machines; by number {}",
+        "{} expressions, both switches, four buffers each, accepted worksheets run on both machines, {} with a measured \
+         result; by number {}",
         grouped(effort.expressions as u64),
+        grouped(measured),
         counts.join(", ")
     ))
 }
@@ -221,7 +228,7 @@ fn check_typing(
 fn compare_worksheets(rules: &Crate, effort: &Effort, seed: u64) -> u64 {
     let mut tally = Tally::new("worksheets");
     let mut generator = Generator::new(rules, seed);
-    let (mut ended, mut stopped) = (0, 0);
+    let (mut ended, mut measured, mut stopped) = (0, 0, 0);
     for _ in 0..effort.worksheets {
         let whole = generator.sheet();
         let sheet = match generator.random.below(8) {
@@ -233,10 +240,16 @@ fn compare_worksheets(rules: &Crate, effort: &Effort, seed: u64) -> u64 {
         let expected = machine::run(rules, &sheet);
         if expected.number == 0 {
             ended += 1;
+            measured += u64::from(expected.mark == MEASURED);
         } else {
             stopped += 1;
         }
         tally.check(expected, ours::run(&sheet), || format!("{} bytes {:?}", sheet.len(), beginning(&sheet)));
     }
-    tally.sum_up(&format!("{} run to their end, {} stop", grouped(ended), grouped(stopped)))
+    tally.sum_up(&format!(
+        "{} run to their end, {} of them to a measured operand, {} stop",
+        grouped(ended),
+        grouped(measured),
+        grouped(stopped)
+    ))
 }

@@ -2,14 +2,16 @@
 //! document 01's numbers. Nothing of the resolution is repeated here. What is added is the order in which document 01
 //! asks (which argument empties the set, and what is refused before the crate is reached), the numbering of rules, who
 //! gave a consensus its scalar, and the two steps that change request (iv) makes of the crate's argument step: a filter of
-//! what the crate lists, by the constructors and conversions that it has.
+//! what the crate lists, by the constructors and conversions that it has. Of the marks that change request (v) gives to
+//! operands the crate knows nothing: what is refused for them is found here, and one that is measured asks the crate for its
+//! concrete-only step as the switch does.
 
 use naga::ir::{MathFunction, Module, Scalar, Type, TypeInner};
 use naga::proc::overloads_oracle::{constructor_of, convertible_from, Hand};
 use naga::proc::{Conclusion, OverloadSet, Rule, TypeResolution};
 use naga::{Handle, Span};
 
-use crate::numbering::{self, FUNCTIONS, LAST_CODE, NONE, OPAQUE, SCALAR_COUNT};
+use crate::numbering::{self, CONSTANT, FUNCTIONS, LAST_CODE, MEASURED, NONE, OPAQUE, SCALAR_COUNT};
 use crate::ours::{self, ChosenAnswer, ConsensusAnswer, Giver, Masked, Part, Refused, RuleAnswer};
 
 /// A rule in type codes.
@@ -184,35 +186,40 @@ impl Crate {
         }
     }
 
-    /// A single call, with the tests that document 01 puts before the crate's.
-    pub fn call(&self, function: u8, operands: &[u8], concrete_only: bool) -> Outcome {
+    /// A single call, with the tests that the documents put before the crate's.
+    pub fn call(&self, function: u8, types: &[u8], marks: &[u8], concrete_only: bool) -> Outcome {
         if usize::from(function) >= FUNCTIONS.len() {
             return Outcome::refused(7, 0);
         }
-        if let Some(unknown) = operands.iter().position(|&code| code > LAST_CODE) {
-            return Outcome::refused(7, 1 + unknown);
+        if types.len() != marks.len() {
+            return Outcome::refused(8, types.len().min(marks.len()));
         }
-        match self.resolve(FUNCTIONS[function as usize], operands, concrete_only) {
-            Ok(set) => self.accepted(function, &set),
+        if let Some(fault) = operand_fault(types, marks) {
+            return fault;
+        }
+        let mark = result_mark(marks);
+        match self.resolve(FUNCTIONS[function as usize], types, concrete_only || mark == MEASURED) {
+            Ok(set) => self.accepted(function, &set, mark),
             Err(Refusal::Count) => Outcome::refused(5, 0),
             Err(Refusal::Argument(part, argument)) => Outcome::refused(part.refusal(), 1 + argument),
             Err(Refusal::Empty) => Outcome::refused(1, 0),
         }
     }
 
-    /// The answer of a call whose arguments left `set`, which has rules.
-    pub fn concluded<S: OverloadSet>(&self, function: u8, set: &S, concrete_only: bool) -> Outcome {
-        match self.concrete(set.clone(), concrete_only) {
-            Ok(set) => self.accepted(function, &set),
+    /// The answer of a call whose arguments left `set`, which has rules, and have these marks.
+    pub fn concluded<S: OverloadSet>(&self, function: u8, set: &S, marks: &[u8], concrete_only: bool) -> Outcome {
+        let mark = result_mark(marks);
+        match self.concrete(set.clone(), concrete_only || mark == MEASURED) {
+            Ok(set) => self.accepted(function, &set, mark),
             Err(_) => Outcome::refused(1, 0),
         }
     }
 
-    fn accepted<S: OverloadSet>(&self, function: u8, set: &S) -> Outcome {
+    fn accepted<S: OverloadSet>(&self, function: u8, set: &S, mark: u8) -> Outcome {
         let index = self.index(function, &set.most_preferred());
         let rule = &self.listing(function)[index as usize];
         let survivors = Masked::of(self.survivors(function, set), self.listing(function).len());
-        Outcome { call: ours::chosen(index, rule.answer()), survivors }
+        Outcome { call: ours::chosen(index, rule.answer(), mark), survivors }
     }
 
     /// The first index in the function's full listing that holds this rule. Rules that are listed twice are alike in
@@ -292,6 +299,25 @@ impl Crate {
             body(&Asker { ask, expressions })
         })
     }
+}
+
+/// The refusal of the first operand that has an unknown type, an unknown mark, or both a measured mark and an abstract type,
+/// in this order.
+pub fn operand_fault(types: &[u8], marks: &[u8]) -> Option<Outcome> {
+    types.iter().zip(marks).enumerate().find_map(|(index, (&code, &mark))| {
+        if code > LAST_CODE || mark > MEASURED {
+            Some(Outcome::refused(7, 1 + index))
+        } else if mark == MEASURED && numbering::is_abstract(code) {
+            Some(Outcome::refused(17, 1 + index))
+        } else {
+            None
+        }
+    })
+}
+
+/// The mark of a call's result: measured if any operand is.
+fn result_mark(marks: &[u8]) -> u8 {
+    marks.iter().copied().max().unwrap_or(CONSTANT)
 }
 
 /// An expression of the front end's context.

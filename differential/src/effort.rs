@@ -4,6 +4,10 @@
 pub struct Effort {
     /// Operand tuples and component lists up to this length are all asked.
     pub exhaustive: usize,
+    /// Refused tuples up to this length are asked with every pattern of marks, too.
+    pub patterns: usize,
+    /// Of the longer ones, one in so many is asked with some pattern of marks, too.
+    pub marked: usize,
     /// For longer tuples of the right length: so many endings of each beginning that the crate refuses.
     pub endings: usize,
     /// For functions with longer tuples: so many random ones of the right and of the wrong length each.
@@ -24,6 +28,8 @@ pub struct Effort {
 
 pub const FULL: Effort = Effort {
     exhaustive: 3,
+    patterns: 2,
+    marked: 4,
     endings: 400,
     tuples: 1_000_000,
     sets: 2_000_000,
@@ -36,6 +42,8 @@ pub const FULL: Effort = Effort {
 
 pub const QUICK: Effort = Effort {
     exhaustive: 2,
+    patterns: 1,
+    marked: 8,
     endings: 10,
     tuples: 20_000,
     sets: 10_000,

@@ -1,10 +1,10 @@
-//! An independent typer of expressions, written in Rust from document 01 over the crate's overload sets: the first pass
-//! reads the bytes into nodes and answers the first fault, the second types arguments before their call and writes the
-//! worksheet. The crate knows neither expressions nor worksheets; what it decides here is the rule of each call, or what
-//! leaves none.
+//! An independent typer of expressions, written in Rust from document 01 and change request (v) over the crate's overload
+//! sets: the first pass reads the bytes into nodes and answers the first fault, the second types arguments before their call,
+//! marks what is measured and writes the worksheet. The crate knows neither expressions nor worksheets nor marks; what it
+//! decides here is the rule of each call, or what leaves none.
 
 use crate::crate_side::{Crate, Refusal};
-use crate::numbering::{FUNCTIONS, LAST_LEAF};
+use crate::numbering::{is_abstract, Operand, FUNCTIONS, LAST_LEAF};
 use crate::ours::{self, Refused, TypeAnswer};
 
 /// The room that suffices for every worksheet: 64 leaves and calls, and 63 conversions.
@@ -20,7 +20,7 @@ pub struct Node {
 }
 
 pub enum Kind {
-    Leaf(u8),
+    Leaf(Operand),
     Call { function: u8, arguments: u8 },
 }
 
@@ -36,8 +36,8 @@ struct Work<'a> {
 pub fn type_expression(rules: &Crate, bytes: &[u8], concrete_only: bool) -> (TypeAnswer, Vec<u8>) {
     let typed = read(bytes).and_then(|nodes| {
         let mut work = Work { rules, concrete_only, nodes: nodes.iter(), sheet: Vec::with_capacity(ENOUGH_ROOM) };
-        let (_, type_code) = work.next_node()?;
-        Ok((ours::typed(type_code, work.sheet.len()), work.sheet))
+        let (_, result) = work.next_node()?;
+        Ok((ours::typed(result, work.sheet.len()), work.sheet))
     });
     typed.unwrap_or_else(|refusal| (refusal, Vec::new()))
 }
@@ -70,10 +70,13 @@ pub fn read(bytes: &[u8]) -> Result<Vec<Node>, TypeAnswer> {
             return Err(TypeAnswer::refused(9, offset));
         }
         match tag {
-            0 => {
-                let leaf = present(offset + 1)?;
-                if leaf > LAST_LEAF {
+            0 | 2 => {
+                let leaf = Operand { code: present(offset + 1)?, measured: tag == 2 };
+                if leaf.code > LAST_LEAF {
                     return Err(TypeAnswer::refused(7, offset + 1));
+                }
+                if leaf.measured && is_abstract(leaf.code) {
+                    return Err(TypeAnswer::refused(17, offset + 1));
                 }
                 nodes.push(Node { offset, kind: Kind::Leaf(leaf) });
                 offset += 2;
@@ -98,33 +101,36 @@ pub fn read(bytes: &[u8]) -> Result<Vec<Node>, TypeAnswer> {
 }
 
 impl Work<'_> {
-    /// The second pass over the next node and what is under it: where it stands and its type.
-    fn next_node(&mut self) -> Result<(usize, u8), TypeAnswer> {
+    /// The second pass over the next node and what is under it: where it stands and what it results in.
+    fn next_node(&mut self) -> Result<(usize, Operand), TypeAnswer> {
         let node = self.nodes.next().expect("the first pass read every argument");
-        let type_code = match node.kind {
-            Kind::Leaf(code) => {
-                self.sheet.extend([0, code, 0, 0]);
-                code
+        let result = match node.kind {
+            Kind::Leaf(leaf) => {
+                self.sheet.extend([0, leaf.code, leaf.mark(), 0]);
+                leaf
             }
             Kind::Call { function, arguments } => self.call(node.offset, function, arguments)?,
         };
-        Ok((node.offset, type_code))
+        Ok((node.offset, result))
     }
 
-    fn call(&mut self, offset: usize, function: u8, arguments: u8) -> Result<u8, TypeAnswer> {
+    fn call(&mut self, offset: usize, function: u8, arguments: u8) -> Result<Operand, TypeAnswer> {
         let mut offsets = Vec::new();
         let mut operands = Vec::new();
+        let mut measured = false;
         for _ in 0..arguments {
-            let (at, code) = self.next_node()?;
+            let (at, operand) = self.next_node()?;
             offsets.push(at);
-            operands.push(code);
+            operands.push(operand.code);
+            measured |= operand.measured;
         }
-        let preferred =
-            self.rules.preferred(function, &operands, self.concrete_only).map_err(|refusal| match refusal {
+        let preferred = self.rules.preferred(function, &operands, self.concrete_only || measured).map_err(
+            |refusal| match refusal {
                 Refusal::Count => TypeAnswer::refused(5, offset),
                 Refusal::Argument(part, argument) => TypeAnswer::refused(part.refusal(), offsets[argument]),
                 Refusal::Empty => TypeAnswer::refused(1, offset),
-            })?;
+            },
+        )?;
         let index = self.rules.index(function, &preferred);
         let rule = &self.rules.listing(function)[usize::from(index)];
         for (argument, (&operand, &wanted)) in (0u8..).zip(operands.iter().zip(&rule.arguments)) {
@@ -133,6 +139,6 @@ impl Work<'_> {
             }
         }
         self.sheet.extend([1, function, index, arguments]);
-        Ok(rule.result)
+        Ok(Operand { code: rule.result, measured })
     }
 }

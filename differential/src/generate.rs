@@ -1,6 +1,6 @@
-//! Random inputs for the comparison and the benchmark: operand tuples, expressions and worksheets, from well-formed to
-//! raw bytes. Well-formed ones are grown from the crate's rules, so that many of them are accepted; what they mean is
-//! never decided here.
+//! Random inputs for the comparison and the benchmark: operand tuples and their marks, expressions and worksheets, from
+//! well-formed to raw bytes. Well-formed ones are grown from the crate's rules, so that many of them are accepted; what they
+//! mean is never decided here.
 
 use std::collections::HashMap;
 
@@ -8,7 +8,7 @@ use naga::proc::OverloadSet;
 
 use crate::crate_side::Crate;
 use crate::machine::{self, LINE};
-use crate::numbering::{FUNCTIONS, LAST_CODE, LAST_LEAF, OPAQUE, SCALAR_COUNT};
+use crate::numbering::{is_abstract, Operand, FUNCTIONS, LAST_CODE, LAST_LEAF, OPAQUE, SCALAR_COUNT};
 use crate::random::Random;
 
 /// The next tuple of codes in ascending order; false after the last.
@@ -26,6 +26,17 @@ pub fn next_tuple(operands: &mut [u8]) -> bool {
 /// A known type code.
 pub fn any_code(random: &mut Random) -> u8 {
     random.below(usize::from(LAST_CODE) + 1) as u8
+}
+
+/// Whether an operand of this type is measured, one in so many times, or never where that is 0. One of an abstract type is so
+/// seldom, since that is refused.
+fn measures(random: &mut Random, times: usize, code: u8) -> bool {
+    times > 0 && random.once_in(if is_abstract(code) { 60 * times } else { times })
+}
+
+/// Marks for operands of these types, about half of which are measured.
+pub fn any_marks(random: &mut Random, types: &[u8]) -> Vec<u8> {
+    types.iter().map(|&code| u8::from(measures(random, 2, code))).collect()
 }
 
 /// A function and the operands that it accepts, with the switch off.
@@ -61,6 +72,8 @@ pub fn accepted_calls(rules: &Crate) -> Vec<Accepted> {
 pub struct Generator<'a> {
     rules: &'a Crate,
     pub random: Random,
+    /// One in so many leaves is measured; none where this is 0.
+    measured: usize,
     /// The rules, as function and index, that give a type.
     by_result: HashMap<u8, Vec<(u8, u8)>>,
     /// The rules that take exactly these operands.
@@ -77,11 +90,12 @@ impl<'a> Generator<'a> {
                 by_arguments.entry(&rule.arguments).or_default().push((function, index));
             }
         }
-        Generator { rules, random: Random::new(seed), by_result, by_arguments }
+        Generator { rules, random: Random::new(seed), measured: 0, by_result, by_arguments }
     }
 
-    /// An expression of any kind, from well-formed to raw bytes.
+    /// An expression of any kind, from well-formed to raw bytes. Half of them are grown with no measured leaf.
     pub fn any(&mut self) -> Vec<u8> {
+        self.draw_measured();
         match self.random.below(20) {
             0..=8 => self.fitting(),
             9..=10 => self.unfitting(),
@@ -91,6 +105,19 @@ impl<'a> Generator<'a> {
             }
             16..=17 => self.at_a_limit(),
             _ => self.raw(),
+        }
+    }
+
+    fn draw_measured(&mut self) {
+        self.measured = *self.random.pick(&[0, 0, 0, 1, 2, 6]);
+    }
+
+    /// The tag of a leaf of this type.
+    fn leaf_tag(&mut self, code: u8) -> u8 {
+        if measures(&mut self.random, self.measured, code) {
+            2
+        } else {
+            0
         }
     }
 
@@ -128,7 +155,7 @@ impl<'a> Generator<'a> {
             15 => self.random.below(usize::from(LAST_LEAF) + 1) as u8,
             _ => wanted.min(LAST_LEAF),
         };
-        bytes.extend([0, leaf]);
+        bytes.extend([self.leaf_tag(leaf), leaf]);
     }
 
     /// A well-formed expression of any functions, counts and leaves; most are refused by the second pass.
@@ -154,8 +181,8 @@ impl<'a> Generator<'a> {
                 0 => self.random.below(usize::from(LAST_LEAF) + 1),
                 1 => 24 + self.random.below(12),
                 _ => self.random.below(12),
-            };
-            bytes.extend([0, leaf as u8]);
+            } as u8;
+            bytes.extend([self.leaf_tag(leaf), leaf]);
         }
     }
 
@@ -164,14 +191,15 @@ impl<'a> Generator<'a> {
     pub fn at_a_limit(&mut self) -> Vec<u8> {
         const ABS: u8 = 0;
         const MAX: u8 = 3;
-        let leaf = self.random.below(11) as u8;
+        let code = self.random.below(11) as u8;
+        let leaf = [self.leaf_tag(code), code];
         let mut bytes = Vec::new();
         match self.random.below(3) {
             0 => {
                 for _ in 0..13 + self.random.below(5) {
                     bytes.extend([1, ABS, 1]);
                 }
-                bytes.extend([0, leaf]);
+                bytes.extend(leaf);
             }
             1 => {
                 for _ in 0..self.random.below(4) {
@@ -183,7 +211,7 @@ impl<'a> Generator<'a> {
                     if inner {
                         bytes.extend([1, MAX, 2]);
                     } else {
-                        bytes.extend([0, leaf]);
+                        bytes.extend(leaf);
                     }
                 });
             }
@@ -193,7 +221,7 @@ impl<'a> Generator<'a> {
                 bytes.extend([1, function, count]);
                 let given = (usize::from(count) + self.random.below(3)).saturating_sub(1);
                 for _ in 0..given {
-                    bytes.extend([0, leaf]);
+                    bytes.extend(leaf);
                 }
             }
         }
@@ -209,7 +237,7 @@ impl<'a> Generator<'a> {
                 _ if !small => self.random.byte(),
                 0 => self.random.below(80) as u8,
                 1 => self.random.below(4) as u8,
-                _ => self.random.below(2) as u8,
+                _ => self.random.below(3) as u8,
             })
             .collect()
     }
@@ -249,8 +277,10 @@ impl<'a> Generator<'a> {
         lines.concat()
     }
 
-    /// A worksheet that the strict machine mostly obeys, line by line, whatever it means.
+    /// A worksheet that the strict machine mostly obeys, line by line, whatever it means. Half of them are grown with no
+    /// measured leaf.
     pub fn sheet(&mut self) -> Vec<u8> {
+        self.draw_measured();
         let lines = 1 + self.random.mostly_below(40, 400);
         // How eagerly operands are pushed: sometimes the stack is filled.
         let pushes = 2 + self.random.below(8);
@@ -269,25 +299,26 @@ impl<'a> Generator<'a> {
     fn any_line(&mut self) -> [u8; LINE] {
         let spare = if self.random.once_in(3) { 1 } else { 0 };
         match self.random.below(4) {
-            0 => [0, self.random.byte(), 0, spare],
+            0 => [0, self.random.byte(), self.random.below(3) as u8, spare],
             1 => [1, self.random.below(82) as u8, self.random.below(46) as u8, self.random.below(5) as u8],
             2 => [2, self.random.below(5) as u8, self.random.byte(), spare],
             _ => [self.random.byte(), self.random.byte(), self.random.byte(), self.random.byte()],
         }
     }
 
-    fn fitting_line(&mut self, stack: &[u8], pushes: usize) -> [u8; LINE] {
+    fn fitting_line(&mut self, stack: &[Operand], pushes: usize) -> [u8; LINE] {
         if self.random.below(10) >= pushes && !stack.is_empty() {
             if self.random.once_in(3) {
                 let depth = self.random.below(stack.len().min(4));
-                let operand = stack[stack.len() - 1 - depth];
-                if operand < OPAQUE && operand % SCALAR_COUNT < 2 {
+                let code = stack[stack.len() - 1 - depth].code;
+                if is_abstract(code) {
                     let to = *self.random.pick(&[1, 2, 5, 8, 9, 10]);
-                    return [2, depth as u8, operand - operand % SCALAR_COUNT + to, 0];
+                    return [2, depth as u8, code - code % SCALAR_COUNT + to, 0];
                 }
             }
             let count = 1 + self.random.below(stack.len().min(4));
-            if let Some(rules) = self.by_arguments.get(&stack[stack.len() - count..]) {
+            let types: Vec<u8> = stack[stack.len() - count..].iter().map(|operand| operand.code).collect();
+            if let Some(rules) = self.by_arguments.get(&types[..]) {
                 let (function, index) = *self.random.pick(rules);
                 return [1, function, index, count as u8];
             }
@@ -295,7 +326,8 @@ impl<'a> Generator<'a> {
         // Few different types, so that neighbours often match.
         let scalar = *self.random.pick(&[0, 1, 8, 8, 5, 2]);
         let constructor = *self.random.pick(&[0, 0, 0, 1, 2, 3, 4, 8]);
-        [0, SCALAR_COUNT * constructor + scalar, 0, 0]
+        let code = SCALAR_COUNT * constructor + scalar;
+        [0, code, measures(&mut self.random, self.measured, code).into(), 0]
     }
 }
 

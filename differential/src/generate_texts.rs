@@ -1,9 +1,9 @@
 //! Random texts for the comparison and the benchmark, from well-formed to raw bytes: tokens are grown from the names, put
 //! together with spaces, and damaged before or after that. What they mean is never decided here.
 
-use crate::numbering::{FUNCTIONS, LAST_LEAF};
+use crate::numbering::{is_abstract, FUNCTIONS, LAST_LEAF};
 use crate::random::Random;
-use crate::texts::{Names, LONGEST};
+use crate::texts::{Names, LONGEST, MEASURED_RUN};
 
 /// Bytes that mean something in a text, or nearly.
 const TELLING: &[u8] = b"  (),(),<>-0234xfuiabtvm_AZ\t\n\0\x1f\x7f\x80\xff";
@@ -12,18 +12,21 @@ const TELLING: &[u8] = b"  (),(),<>-0234xfuiabtvm_AZ\t\n\0\x1f\x7f\x80\xff";
 pub struct TextGenerator<'a> {
     names: &'a Names,
     pub random: Random,
+    /// One in so many leaves is measured; none where this is 0.
+    measured: usize,
 }
 
-/// Tokens, or runs that stand for them.
+/// Tokens, or runs that stand for them; a measured leaf stands as one, with its spaces.
 type Tokens = Vec<Vec<u8>>;
 
 impl<'a> TextGenerator<'a> {
     pub fn new(names: &'a Names, seed: u64) -> TextGenerator<'a> {
-        TextGenerator { names, random: Random::new(seed) }
+        TextGenerator { names, random: Random::new(seed), measured: 0 }
     }
 
-    /// A text of any kind.
+    /// A text of any kind. Half of them are grown with no measured leaf.
     pub fn any(&mut self) -> Vec<u8> {
+        self.measured = *self.random.pick(&[0, 0, 0, 1, 2, 6]);
         match self.random.below(20) {
             0..=6 => {
                 let tokens = self.tokens();
@@ -82,9 +85,21 @@ impl<'a> TextGenerator<'a> {
         tokens.push(b")".to_vec());
     }
 
+    /// A leaf, seldom a measured one of an abstract type, which is read, but not written. Between `measured` and the type
+    /// stands mostly one space, sometimes several, seldom none.
     fn leaf(&mut self) -> Vec<u8> {
-        let code = self.random.below(usize::from(LAST_LEAF) + 1) as u8;
-        self.names.type_name(code).into()
+        let code = self.leaf_code();
+        let name = self.names.type_name(code).as_bytes();
+        let seldom = if is_abstract(code) { 20 } else { 1 };
+        if self.measured == 0 || !self.random.once_in(seldom * self.measured) {
+            return name.to_vec();
+        }
+        let spaces = if self.random.once_in(40) { 0 } else { 1 + self.random.mostly_below(1, 6) };
+        [MEASURED_RUN.as_bytes(), &vec![b' '; spaces], name].concat()
+    }
+
+    fn leaf_code(&mut self) -> u8 {
+        self.random.below(usize::from(LAST_LEAF) + 1) as u8
     }
 
     fn function(&mut self) -> Vec<u8> {
@@ -127,9 +142,13 @@ impl<'a> TextGenerator<'a> {
         tokens
     }
 
-    /// A run that is nearly a name.
+    /// A run that is nearly a name, or nearly `measured`.
     fn unknown(&mut self) -> Vec<u8> {
-        let mut run = if self.random.once_in(2) { self.leaf() } else { self.function() };
+        let mut run = match self.random.below(9) {
+            0 => MEASURED_RUN.into(),
+            1..=4 => self.names.type_name(self.leaf_code()).into(),
+            _ => self.function(),
+        };
         let place = self.random.below(run.len());
         match self.random.below(7) {
             0 => run[place] ^= 0x20,
@@ -144,12 +163,13 @@ impl<'a> TextGenerator<'a> {
     }
 
     fn any_token(&mut self) -> Vec<u8> {
-        match self.random.below(6) {
+        match self.random.below(7) {
             0 => b"(".to_vec(),
             1 => b")".to_vec(),
             2 => b",".to_vec(),
             3 => self.leaf(),
             4 => self.function(),
+            5 => MEASURED_RUN.into(),
             _ => self.unknown(),
         }
     }
@@ -159,13 +179,14 @@ impl<'a> TextGenerator<'a> {
             return;
         }
         let (one, other) = (self.random.below(tokens.len()), self.random.below(tokens.len()));
-        match self.random.below(7) {
+        match self.random.below(8) {
             0 => drop(tokens.remove(one)),
             1 => tokens.insert(other, tokens[one].clone()),
             2 => tokens.swap(one, other),
             3 => tokens.insert(one, self.any_token()),
             4 => tokens[one] = self.any_token(),
             5 => tokens.truncate(one),
+            6 => tokens.insert(one, MEASURED_RUN.into()),
             _ => tokens[one] = self.unknown(),
         }
     }
@@ -180,7 +201,7 @@ impl<'a> TextGenerator<'a> {
                 self.spaces(style == 3, &mut text);
             }
             text.extend(token);
-            if style == 0 && token == b"," {
+            if style == 0 && (token == b"," || token == MEASURED_RUN.as_bytes()) {
                 text.push(b' ');
             }
         }

@@ -1,6 +1,7 @@
 //! Document 01's numbers against the crate's types: twelve scalars, thirteen constructors, type codes 0 to 180 and
 //! the 79 functions. A code from 0 to 155 is 12 x constructor + scalar; 156 is an array, a pointer or a texture, and a
-//! texture here; 157 to 180 are the predeclared results of Modf and Frexp.
+//! texture here; 157 to 180 are the predeclared results of Modf and Frexp. An operand is a type and, from change request
+//! (v), a mark, which the crate knows nothing of.
 
 use naga::ir::{
     ImageClass, ImageDimension, MathFunction as Mf, PredeclaredType, Scalar, ScalarKind, TypeInner, VectorSize,
@@ -20,6 +21,36 @@ pub const LAST_LEAF: u8 = OPAQUE;
 
 /// The last type code.
 pub const LAST_CODE: u8 = 180;
+
+/// The marks of operands.
+pub const CONSTANT: u8 = 0;
+pub const MEASURED: u8 = 1;
+
+/// The most operands that a call is asked with here.
+pub const MOST_OPERANDS: usize = 70_001;
+
+/// The marks of so many constant operands, at most `MOST_OPERANDS`.
+pub fn constants(operands: usize) -> &'static [u8] {
+    static CONSTANTS: [u8; MOST_OPERANDS] = [CONSTANT; MOST_OPERANDS];
+    &CONSTANTS[..operands]
+}
+
+/// An operand: its type's code, and whether it is measured.
+#[derive(Clone, Copy, Debug, PartialEq, Eq)]
+pub struct Operand {
+    pub code: u8,
+    pub measured: bool,
+}
+
+impl Operand {
+    pub fn mark(self) -> u8 {
+        if self.measured {
+            MEASURED
+        } else {
+            CONSTANT
+        }
+    }
+}
 
 const FIRST_MODF: u8 = 157;
 const FIRST_FREXP: u8 = 169;
@@ -138,6 +169,11 @@ pub fn is_list(function: u8) -> bool {
 /// The crate's scalar of a number from 0 to 11.
 pub fn scalar(number: u8) -> Scalar {
     SCALARS[number as usize]
+}
+
+/// Whether a type's scalar is abstract, by the crate's word on scalars.
+pub fn is_abstract(code: u8) -> bool {
+    code < OPAQUE && scalar(code % SCALAR_COUNT).is_abstract()
 }
 
 /// The number of one of the twelve scalars.

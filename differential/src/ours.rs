@@ -1,13 +1,13 @@
 //! Azwukran's side: the library's answers as the crate `azwukran` gives them, structure for structure, and with a mask all
 //! the bytes that were lent for it. The other side makes its answers of the same structures here, so that comparing is
-//! `==`, over the fields that are kept free, too.
+//! `==`, over every field.
 
 pub use azwukran::{
     call, consensus, mask_bytes, read_text, rule, run, type_expression, write_text, ChosenAnswer, ConsensusAnswer,
     Giver, List, MaskAnswer, Regular, RegularAnswer, RuleAnswer, RunAnswer, TextAnswer, TypeAnswer,
 };
 
-use crate::numbering::NONE;
+use crate::numbering::{Operand, NONE};
 
 /// An answer that can be a refusal, whose other fields are then none.
 pub trait Refused {
@@ -34,7 +34,7 @@ impl Refused for ConsensusAnswer {
 
 impl Refused for TypeAnswer {
     fn refused(number: u8, place: usize) -> TypeAnswer {
-        TypeAnswer { number, place, ..typed(NONE, NONE.into()) }
+        TypeAnswer { number, type_code: NONE, mark: NONE, length: NONE.into(), place }
     }
 }
 
@@ -51,10 +51,10 @@ impl Refused for RegularAnswer {
     }
 }
 
-/// A rule at an index.
-pub fn chosen(index: u8, rule: RuleAnswer) -> ChosenAnswer {
+/// A rule at an index, with the mark of a call's result, or none where no call was asked.
+pub fn chosen(index: u8, rule: RuleAnswer, mark: u8) -> ChosenAnswer {
     let RuleAnswer { arguments, count, result, .. } = rule;
-    ChosenAnswer { number: 0, index, arguments, count, result, mark: NONE, place: 0 }
+    ChosenAnswer { number: 0, index, arguments, count, result, mark, place: 0 }
 }
 
 /// A consensus on a scalar, and who gave it. The base is no component, so none is named then.
@@ -66,9 +66,9 @@ pub fn agreed(scalar: u8, giver: Giver) -> ConsensusAnswer {
     ConsensusAnswer { number: 0, scalar, giver, component, place: 0 }
 }
 
-/// An expression of this type, with a worksheet of so many bytes.
-pub fn typed(type_code: u8, length: usize) -> TypeAnswer {
-    TypeAnswer { number: 0, type_code, mark: NONE, length, place: 0 }
+/// An expression that results in this, with a worksheet of so many bytes.
+pub fn typed(result: Operand, length: usize) -> TypeAnswer {
+    TypeAnswer { number: 0, type_code: result.code, mark: result.mark(), length, place: 0 }
 }
 
 /// Bytes or a text of this length.
@@ -76,9 +76,10 @@ pub fn made(length: usize) -> TextAnswer {
     TextAnswer { number: 0, length, place: 0 }
 }
 
-/// A worksheet that ran to its end, with so many operands and the top's type, 255 where there is none.
-pub fn ended(operands: usize, top: u8) -> RunAnswer {
-    RunAnswer { number: 0, top, mark: NONE, operands, place: 0 }
+/// A worksheet that ran to its end, with so many operands, and the topmost, whose type and mark are 255 where there is none.
+pub fn ended(operands: usize, top: Option<Operand>) -> RunAnswer {
+    let (top, mark) = top.map_or((NONE, NONE), |operand| (operand.code, operand.mark()));
+    RunAnswer { number: 0, top, mark, operands, place: 0 }
 }
 
 /// A worksheet that stopped at a line, counted from 0.
@@ -172,6 +173,6 @@ impl Masked {
 }
 
 /// The mask of the rules of the function's full listing that survive a call.
-pub fn survivors(function: u8, operands: &[u8], concrete_only: bool, room: usize) -> Masked {
-    Masked::asked(room, |out| azwukran::survivors(function, operands, concrete_only, out))
+pub fn survivors(function: u8, types: &[u8], marks: &[u8], concrete_only: bool, room: usize) -> Masked {
+    Masked::asked(room, |out| azwukran::survivors(function, types, marks, concrete_only, out))
 }

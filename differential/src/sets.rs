@@ -7,7 +7,7 @@ use naga::proc::overloads_oracle::Hand;
 
 use crate::crate_side::{rule_codes, Crate, RuleCodes};
 use crate::generate::any_code;
-use crate::numbering::{LAST_CODE, OPAQUE, SCALAR_COUNT};
+use crate::numbering::{LAST_CODE, NONE, OPAQUE, SCALAR_COUNT};
 use crate::ours::{
     self, mask_bytes, ChosenAnswer, List, Masked, Part, Refused, Regular, RegularAnswer, RuleAnswer, LENT,
 };
@@ -361,6 +361,6 @@ fn compare_list_preferred(tally: &mut Tally, list: &ByteList, listed: &[RuleCode
     }
     let rule = rule_codes(&hand.most_preferred());
     let first = (0..listed.len()).find(|k| list.members[k / 8] >> (k % 8) & 1 == 1).expect("a member is left");
-    let expected = ours::chosen(first as u8, rule.answer());
+    let expected = ours::chosen(first as u8, rule.answer(), NONE);
     tally.check((expected, Some(&rule)), (answer, listed.get(usize::from(answer.index))), told);
 }

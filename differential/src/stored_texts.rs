@@ -24,7 +24,7 @@ use crate::crate_side::Crate;
 use crate::generate::Generator;
 use crate::generate_texts::TextGenerator;
 use crate::numbering::{FUNCTIONS, LAST_LEAF};
-use crate::texts::{self, Made, Names, ENOUGH_BYTES, ENOUGH_TEXT, LONGEST};
+use crate::texts::{self, Made, Names, ENOUGH_BYTES, ENOUGH_TEXT, LONGEST, MEASURED_RUN};
 
 /// How many random questions of each kind are stored.
 const RANDOM: usize = 150;
@@ -98,11 +98,12 @@ fn random(mut draw: impl FnMut() -> Vec<u8>, mut add: impl FnMut(&[u8])) {
     }
 }
 
-/// Every name, and texts about as long as the longest.
+/// Every name, that of a type also behind `measured`, and texts about as long as the longest.
 fn names_and_lengths(names: &Names) -> Vec<Vec<u8>> {
     let functions = (0..FUNCTIONS.len() as u8).map(|number| format!("{}()", names.function(number)));
     let types = (0..=LAST_LEAF).map(|code| names.type_name(code).to_string());
-    let mut texts: Vec<Vec<u8>> = functions.chain(types).map(String::into_bytes).collect();
+    let measured = (0..=LAST_LEAF).map(|code| format!("{MEASURED_RUN} {}", names.type_name(code)));
+    let mut texts: Vec<Vec<u8>> = functions.chain(types).chain(measured).map(String::into_bytes).collect();
     for length in LONGEST - 1..=LONGEST + 1 {
         texts.push(format!("{:<length$}", "abs(u32)").into_bytes());
     }
@@ -182,19 +183,50 @@ fn by_hand() -> Vec<Vec<u8>> {
         "abs(u32)\n",
         "\0",
         "\u{1}\0\u{1}\0\u{5}",
+        "\u{2}\u{5}",
+        "  measured   vec3<f32>  ",
+        "pow(measured f32, abstract-int)",
+        "clamp(measured vec2<f32>,vec2<abstract-int>,measured  vec2<f32>)",
+        "measured",
+        "measured ",
+        "measured(",
+        "measured()",
+        "measured(u32)",
+        "measured,u32",
+        "measured measured u32",
+        "measured abs",
+        "measured abs(u32)",
+        "measured x",
+        "measured u33",
+        "measured u32 u32",
+        "measured u32()",
+        "measuredu32",
+        "measure u32",
+        "measuredd u32",
+        "Measured u32",
+        "measured\tu32",
+        "u32 measured",
+        "u32 measured u32",
+        "abs measured",
+        "abs(measured",
+        "abs(measured ",
+        "abs(measured)",
+        "abs(measured,u32)",
+        "abs(u32 measured)",
+        "abs(u32,measured x)",
     ]
     .map(|text| text.as_bytes().to_vec())
     .to_vec();
     texts.push(vec![255, 254, b'(']);
     // Depth 16 and 17, with a known or an unknown run at the end, or none.
     for calls in [15, 16] {
-        for last in ["f32", "x", "", ")", ",", "abs("] {
+        for last in ["f32", "x", "", ")", ",", "abs(", "measured f32", "measured x", "measured"] {
             texts.push(("abs(".repeat(calls) + last + &")".repeat(calls)).into_bytes());
         }
     }
     // 64 and 65 nodes.
     for arguments in [63, 64] {
-        for last in ["u32", "x", "abs()", "", ")", ","] {
+        for last in ["u32", "x", "abs()", "", ")", ",", "measured u32", "measured x", "measured"] {
             texts.push(format!("max({}{last})", "u32,".repeat(arguments - 1)).into_bytes());
         }
         texts.push(format!("max({})", vec!["abs()"; arguments].join(",")).into_bytes());
@@ -211,6 +243,8 @@ fn expressions_by_hand() -> Vec<Vec<u8>> {
     const COUNT_TRAILING_ZEROS: u8 = 36;
     /// MAT4X4 of ABSTRACT_FLOAT, that with the longest name.
     const LONGEST_LEAF: u8 = 145;
+    /// MAT4X4 of BOOL, that with the longest name of those that may be measured.
+    const LONGEST_MEASURED: u8 = 155;
     let mut expressions = vec![
         vec![],
         vec![0],
@@ -232,19 +266,33 @@ fn expressions_by_hand() -> Vec<Vec<u8>> {
         vec![1, 79, 0],
         vec![1, 255],
         vec![2],
-        vec![2, 0],
+        vec![2, LAST_LEAF + 1],
+        vec![2, 255],
+        vec![2, 0, 0],
+        vec![2, U32, 2],
+        vec![2, U32, 2, U32],
+        vec![1, ABS, 1, 2],
+        vec![1, ABS, 1, 2, 1],
+        vec![1, MAX, 2, 2, U32, 0, 0],
+        vec![1, MAX, 2, 2, LONGEST_LEAF, 7],
+        vec![1, MAX, 2, 7, 2, LONGEST_LEAF],
+        vec![3],
         vec![255],
         vec![1, MAX, 2, 0, U32, 7],
         b"abs(u32)".to_vec(),
     ];
+    expressions.extend((0..=LAST_LEAF).map(|code| vec![2, code]));
     for calls in [15, 16] {
+        expressions.push([[1, ABS, 1].repeat(calls), vec![2, 0]].concat());
         expressions.push([[1, ABS, 1].repeat(calls), vec![0, U32]].concat());
         expressions.push([1, ABS, 1].repeat(calls));
     }
     for arguments in [63, 64, 255] {
         expressions.push([vec![1, MAX, arguments], [0, U32].repeat(arguments.into())].concat());
+        expressions.push([vec![1, MAX, arguments], [2, U32].repeat(arguments.into())].concat());
         expressions.push([vec![1, MAX, arguments], [1, ABS, 0].repeat(arguments.into())].concat());
     }
     expressions.push([vec![1, COUNT_TRAILING_ZEROS, 63], [0, LONGEST_LEAF].repeat(63)].concat());
+    expressions.push([vec![1, COUNT_TRAILING_ZEROS, 63], [2, LONGEST_MEASURED].repeat(63)].concat());
     expressions
 }

@@ -5,10 +5,10 @@ use crate::crate_side::Crate;
 use crate::effort::Effort;
 use crate::generate::Generator;
 use crate::generate_texts::TextGenerator;
-use crate::ours::{self, TextAnswer};
+use crate::ours::{self, Refused, TextAnswer};
 use crate::random::Random;
 use crate::tally::{grouped, Tally};
-use crate::texts::{self, Made, Names, ENOUGH_BYTES, ENOUGH_TEXT, LONGEST};
+use crate::texts::{self, Made, Names, ENOUGH_BYTES, ENOUGH_TEXT, LONGEST, MEASURED_RUN};
 
 /// How many bytes stand behind a buffer that are not lent.
 const BEHIND: usize = 16;
@@ -22,13 +22,13 @@ struct Lent {
     expected: Vec<u8>,
     answered: Vec<u8>,
     /// How many questions were answered by each number.
-    by_number: [u64; 16],
+    by_number: [u64; 18],
 }
 
 impl Lent {
     fn new(random: &mut Random) -> Lent {
         let pattern = (0..2 * (MOST_ROOM + BEHIND)).map(|_| random.byte()).collect();
-        Lent { pattern, expected: Vec::new(), answered: Vec::new(), by_number: [0; 16] }
+        Lent { pattern, expected: Vec::new(), answered: Vec::new(), by_number: [0; 18] }
     }
 
     /// Puts one question with this room and compares the answers and all bytes of both buffers.
@@ -81,7 +81,8 @@ pub fn compare_texts(rules: &Crate, effort: &Effort, seed: u64) -> u64 {
     compare_reading(&names, effort, seed) + compare_writing(rules, &names, effort, seed)
 }
 
-/// Texts of every kind, four buffers each. What was read is written, and that read again, by ours.
+/// Texts of every kind, four buffers each. What was read is written, and that read again, by ours; with a measured leaf that
+/// is abstract it is read, and refused where it is written.
 fn compare_reading(names: &Names, effort: &Effort, seed: u64) -> u64 {
     let mut tally = Tally::new("texts read");
     let mut generator = TextGenerator::new(names, seed);
@@ -106,8 +107,12 @@ fn compare_reading(names: &Names, effort: &Effort, seed: u64) -> u64 {
         for room in rooms(&made, ENOUGH_BYTES, &mut generator.random) {
             lent.check(&mut tally, ("read", &text), &made, room, ours::read_text);
         }
-        if let Ok(made) = &made {
-            let length = ours::write_text(made, &mut written).length.min(ENOUGH_TEXT);
+        let Ok(made) = &made else { continue };
+        let answer = ours::write_text(made, &mut written);
+        if let Err((number, place)) = texts::write(names, made) {
+            tally.check(TextAnswer::refused(number, place), answer, || format!("what was read, {made:?}, written"));
+        } else {
+            let length = answer.length.min(ENOUGH_TEXT);
             let again = ours::read_text(&written[..length], &mut bytes);
             let length = again.length.min(ENOUGH_BYTES);
             tally.check((ours::made(made.len()), &made[..]), (again, &bytes[..length]), || {
@@ -116,8 +121,9 @@ fn compare_reading(names: &Names, effort: &Effort, seed: u64) -> u64 {
         }
     }
     tally.sum_up(&format!(
-        "all texts of up to two bytes and of up to {} tokens among six, names with a byte changed, lost, doubled or \
-         added, and {} random texts, four buffers each, accepted ones written and read again; by number {}",
+        "all texts of up to two bytes and of up to {} tokens among seven, runs that mean something with a byte changed, \
+         lost, doubled or added, also behind `measured` and before a type, and {} random texts, four buffers each, accepted \
+         ones written and read again; by number {}",
         effort.tokens,
         grouped(effort.texts as u64),
         lent.counts()
@@ -135,34 +141,36 @@ fn few_bytes(ask: &mut impl FnMut(&[u8])) {
     }
 }
 
-/// Every name, alone and with an empty list behind it, and so with any byte in each place of it, without each of its
-/// bytes, with each doubled, cut behind each, and with any byte before and behind it.
+/// Every name, and `measured`: alone, with an empty list behind it, behind `measured`, and before a type; and so with any byte
+/// in each place of it, without each of its bytes, with each doubled, cut behind each, and with any byte before and behind it.
 fn near_names(names: &Names, ask: &mut impl FnMut(&[u8])) {
-    let mut both = |run: &[u8]| {
+    let mut each = |run: &[u8]| {
         ask(run);
         ask(&[run, b"()"].concat());
+        ask(&[MEASURED_RUN.as_bytes(), b" ", run].concat());
+        ask(&[run, b" u32"].concat());
     };
     for name in names.all().map(str::as_bytes) {
         for place in 0..name.len() {
             let (front, back) = name.split_at(place);
             for byte in 0..=u8::MAX {
-                both(&[front, &[byte], &back[1..]].concat());
+                each(&[front, &[byte], &back[1..]].concat());
             }
-            both(&[front, &back[1..]].concat());
-            both(&[front, &back[..1], back].concat());
-            both(front);
+            each(&[front, &back[1..]].concat());
+            each(&[front, &back[..1], back].concat());
+            each(front);
         }
         for byte in 0..=u8::MAX {
-            both(&[&[byte], name].concat());
-            both(&[name, &[byte]].concat());
+            each(&[&[byte], name].concat());
+            each(&[name, &[byte]].concat());
         }
     }
 }
 
-/// Every row of at most so many tokens among the three signs, a type, a function and an unknown run, with a space between
-/// two runs.
+/// Every row of at most so many tokens among the three signs, a type, a function, `measured` and an unknown run, with a space
+/// between two runs.
 fn few_tokens(most: usize, ask: &mut impl FnMut(&[u8])) {
-    const TOKENS: [&[u8]; 6] = [b"u32", b"abs", b"(", b")", b",", b"u"];
+    const TOKENS: [&[u8]; 7] = [b"u32", b"abs", b"(", b")", b",", b"u", MEASURED_RUN.as_bytes()];
     fn extend(text: &mut Vec<u8>, left: usize, ask: &mut impl FnMut(&[u8])) {
         ask(text);
         if left == 0 {
@@ -194,6 +202,7 @@ fn compare_writing(rules: &Crate, names: &Names, effort: &Effort, seed: u64) -> 
         for other in 0..=u8::MAX {
             plain(&[number, other]);
             plain(&[1, number, 1, 0, other]);
+            plain(&[1, number, 1, 2, other]);
             plain(&[1, number, other]);
         }
     }

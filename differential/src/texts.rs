@@ -1,5 +1,5 @@
-//! An independent reader and writer of texts, written in Rust from change request (i). The reader cuts the whole text
-//! into tokens first and then descends over them; the writer descends over the nodes that the first pass of
+//! An independent reader and writer of texts, written in Rust from change requests (i) and (v). The reader cuts the whole
+//! text into tokens first and then descends over them; the writer descends over the nodes that the first pass of
 //! `expressions.rs` read. Names are looked up in a map that is built once, from the crate's own names where it has one.
 
 use std::collections::HashMap;
@@ -18,14 +18,19 @@ pub const LONGEST: usize = 4096;
 /// The room that suffices for what is read from any text: 64 calls.
 pub const ENOUGH_BYTES: usize = 192;
 
-/// The room that suffices for the text of any expression: a call of the longest name over 63 leaves of the longest.
+/// The room that suffices for the text of any expression: a call of the longest name over 63 leaves of the longest. That
+/// leaf is abstract and cannot be measured; the longest measured one takes a byte less.
 pub const ENOUGH_TEXT: usize = 1530;
+
+/// The run that stands before the type of a measured leaf.
+pub const MEASURED_RUN: &str = "measured";
 
 /// What a run of bytes means where a node may begin.
 #[derive(Clone, Copy)]
 enum Meaning {
     Type(u8),
     Function(u8),
+    Measured,
 }
 
 /// The names of functions and types, by number and by spelling.
@@ -46,13 +51,14 @@ impl Names {
         for (code, name) in (0u8..).zip(&types) {
             meanings.insert(name.clone().into_bytes(), Meaning::Type(code));
         }
-        assert_eq!(meanings.len(), functions.len() + types.len(), "no name is of two things");
+        meanings.insert(MEASURED_RUN.into(), Meaning::Measured);
+        assert_eq!(meanings.len(), functions.len() + types.len() + 1, "no run means two things");
         Names { functions, types, meanings }
     }
 
-    /// Every spelling.
+    /// Every run that means something.
     pub fn all(&self) -> impl Iterator<Item = &str> {
-        self.functions.iter().chain(&self.types).map(String::as_str)
+        self.functions.iter().chain(&self.types).map(String::as_str).chain([MEASURED_RUN])
     }
 
     /// The spelling of a function from 0 to 78.
@@ -196,7 +202,17 @@ impl Reader<'_> {
                 self.bytes[count] = self.arguments(depth + 1)?;
                 Ok(())
             }
+            Some(Meaning::Measured) => self.measured_type(),
         }
+    }
+
+    /// The type that must stand behind `measured`.
+    fn measured_type(&mut self) -> Result<(), Refusal> {
+        let Some(&&Token { sign: Sign::Run(run), .. }) = self.tokens.peek() else { return self.misplaced() };
+        let Some(&Meaning::Type(code)) = self.names.meanings.get(run) else { return self.misplaced() };
+        self.tokens.next();
+        self.bytes.extend([2, code]);
+        Ok(())
     }
 
     /// An argument list, and how many arguments it has.
@@ -231,7 +247,13 @@ pub fn write(names: &Names, bytes: &[u8]) -> Made {
 
 fn write_node(names: &Names, nodes: &mut std::slice::Iter<Node>, text: &mut Vec<u8>) {
     match nodes.next().expect("the first pass read every argument").kind {
-        Kind::Leaf(code) => text.extend(names.type_name(code).as_bytes()),
+        Kind::Leaf(leaf) => {
+            if leaf.measured {
+                text.extend(MEASURED_RUN.as_bytes());
+                text.push(b' ');
+            }
+            text.extend(names.type_name(leaf.code).as_bytes());
+        }
         Kind::Call { function, arguments } => {
             text.extend(names.function(function).as_bytes());
             text.push(b'(');

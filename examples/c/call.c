@@ -46,23 +46,31 @@ static void print_members(const uint8_t *mask, size_t n) {
     }
 }
 
-/* A call and the rules that survive it. */
-static void show_call(const char *name, uint8_t function, const uint8_t *operands, size_t n, uint8_t concrete_only) {
+/* A mark in words; none where there is no operand. */
+static const char *mark_text(uint8_t mark) {
+    return mark == AZWUKRAN_MEASURED ? "measured" : mark == AZWUKRAN_CONSTANT ? "constant" : "none";
+}
+
+/* A call of operands of these n types and m marks, and the rules that survive it. */
+static void show_call(const char *name, uint8_t function, const uint8_t *types, size_t n, const uint8_t *marks, size_t m,
+                      uint8_t concrete_only) {
     printf("%s of ", name);
-    print_listed(operands, n);
+    print_listed(types, n);
+    printf(", marks ");
+    print_listed(marks, m);
     printf("%s: ", concrete_only ? ", concrete only" : "");
-    azwukran_chosen_answer call = azwukran_call(function, operands, n, concrete_only);
+    azwukran_chosen_answer call = azwukran_call(function, types, n, marks, m, concrete_only);
     if (refused(call.number, call.place)) {
         return;
     }
     uint8_t mask[ENOUGH_MASK] = {0};
-    azwukran_mask_answer left = azwukran_survivors(function, operands, n, concrete_only, mask, sizeof mask);
+    azwukran_mask_answer left = azwukran_survivors(function, types, n, marks, m, concrete_only, mask, sizeof mask);
     if (refused(left.number, left.place)) {
         return;
     }
     printf("rule %u, ", call.index);
     print_rule(call.arguments, call.count, call.result);
-    printf("; survivors ");
+    printf(", %s; survivors ", mark_text(call.mark));
     print_members(mask, sizeof mask);
     printf("\n");
 }
@@ -98,11 +106,11 @@ static void show_run(const char *question, const uint8_t *sheet, size_t n) {
     if (run.number == AZWUKRAN_STOPPED) {
         printf("%s: stopped at line %zu\n", question, run.place);
     } else {
-        printf("%s: ended, operands %zu, top %u\n", question, run.operands, run.top);
+        printf("%s: ended, operands %zu, top %u, %s\n", question, run.operands, run.top, mark_text(run.mark));
     }
 }
 
-/* An expression's type, its worksheet, and how that runs, whole and without its first line. */
+/* An expression's type and mark, its worksheet, and how that runs, whole and without its first line. */
 static void show_expression(const uint8_t *bytes, size_t n) {
     printf("expression ");
     print_listed(bytes, n);
@@ -113,7 +121,7 @@ static void show_expression(const uint8_t *bytes, size_t n) {
         return;
     }
     size_t length = typed.length;
-    printf("type %u, worksheet of %zu bytes\n", typed.type, length);
+    printf("type %u, %s, worksheet of %zu bytes\n", typed.type, mark_text(typed.mark), length);
     for (size_t line = 0; line < length; line += LINE) {
         printf("  ");
         print_listed(sheet + line, LINE);
@@ -239,12 +247,19 @@ int main(void) {
     const uint8_t mixed[] = {F32, F32, F32};
     const uint8_t unlike[] = {F32, F16};
     const uint8_t unshaped[] = {F32, VEC2_F32};
-    show_call("Clamp", CLAMP, clamped, sizeof clamped, 0);
-    show_call("Sin", SIN, angle, sizeof angle, 0);
-    show_call("Sin", SIN, angle, sizeof angle, 1);
-    show_call("Mix", MIX, mixed, sizeof mixed, 0);
-    show_call("Pow", POW, unlike, sizeof unlike, 0);
-    show_call("Pow", POW, unshaped, sizeof unshaped, 0);
+    const uint8_t constants[] = {AZWUKRAN_CONSTANT, AZWUKRAN_CONSTANT, AZWUKRAN_CONSTANT};
+    show_call("Clamp", CLAMP, clamped, sizeof clamped, constants, sizeof clamped, 0);
+    show_call("Sin", SIN, angle, sizeof angle, constants, sizeof angle, 0);
+    show_call("Sin", SIN, angle, sizeof angle, constants, sizeof angle, 1);
+    show_call("Mix", MIX, mixed, sizeof mixed, constants, sizeof mixed, 0);
+    show_call("Pow", POW, unlike, sizeof unlike, constants, sizeof unlike, 0);
+    show_call("Pow", POW, unshaped, sizeof unshaped, constants, sizeof unshaped, 0);
+    const uint8_t reading[] = {F32, ABSTRACT_INT, ABSTRACT_FLOAT};
+    const uint8_t one_measured[] = {AZWUKRAN_MEASURED, AZWUKRAN_CONSTANT, AZWUKRAN_CONSTANT};
+    const uint8_t both_measured[] = {AZWUKRAN_MEASURED, AZWUKRAN_MEASURED};
+    show_call("Clamp", CLAMP, reading, sizeof reading, one_measured, sizeof one_measured, 0);
+    show_call("Pow", POW, reading, 2, both_measured, 2, 0);
+    show_call("Pow", POW, reading, 2, both_measured, 1, 0);
     show_rule("rule 4 of Transpose", azwukran_rule(TRANSPOSE, 4));
     show_rule("rule 36 of Transpose", azwukran_rule(TRANSPOSE, 36));
     const uint8_t floats[] = {ABSTRACT_INT, F32, ABSTRACT_FLOAT};
@@ -257,14 +272,20 @@ int main(void) {
     show_consensus(ABSTRACT_INT, two_u32, sizeof two_u32);
     const uint8_t clamp[] = {1, CLAMP, 3, 0, ABSTRACT_INT, 0, U32, 0, ABSTRACT_INT};
     const uint8_t power[] = {1, POW, 2, 1, DISTANCE, 2, 0, ABSTRACT_FLOAT, 0, ABSTRACT_FLOAT, 0, F16};
+    const uint8_t measured[] = {1, CLAMP, 3, 2, F32, 0, ABSTRACT_INT, 0, ABSTRACT_FLOAT};
+    const uint8_t measured_abstract[] = {1, SIN, 1, 2, ABSTRACT_FLOAT};
     show_expression(clamp, sizeof clamp);
     show_expression(power, sizeof power);
+    show_expression(measured, sizeof measured);
+    show_expression(measured_abstract, sizeof measured_abstract);
     show_text("clamp(abstract-int, u32, abstract-int)");
     show_text(" mix ( vec2<f32>,vec2<f32>,f32 ) ");
     show_text("sin()");
     show_text("Sin(f32)");
     show_text("sin(f32,)");
     show_text("sin(f32");
+    show_text("pow( measured  f32,abstract-int)");
+    show_text("sin(measured)");
     char deep[4 * DEEPEST + 4] = "";
     for (size_t depth = 0; depth < DEEPEST; depth++) {
         strcat(deep, "sin(");
@@ -272,8 +293,10 @@ int main(void) {
     show_text(strcat(deep, "f32"));
     const uint8_t no_leaf[] = {0, NO_LEAF};
     const uint8_t cut_short[] = {1, SIN};
+    const uint8_t abstract[] = {2, ABSTRACT_INT};
     show_written("no leaf", no_leaf, sizeof no_leaf, ENOUGH_TEXT);
     show_written("cut short", cut_short, sizeof cut_short, ENOUGH_TEXT);
+    show_written("measured and abstract", abstract, sizeof abstract, ENOUGH_TEXT);
     /* Pow's rules: two arguments of one type, scalar or vector, of a float. */
     show_regular(2, 0xf, 0x702, 0);
     show_list("Mix", MIX);

@@ -13,7 +13,7 @@ use c_answers::ChosenForC;
 use c_answers::ConsensusForC;
 use c_answers::MaskForC;
 use c_answers::RuleForC;
-use c_answers::chosen_for_c;
+use c_answers::call_for_c;
 use c_answers::consensus_for_c;
 use c_answers::rule_for_c;
 use calls::call_of;
@@ -28,12 +28,13 @@ use types::automatic_conversion_consensus;
 // What stands for no base.
 const NO_BASE: u8 = 255;
 
-// The rule that a call means, with its index in the full listing. The concrete-only switch is off at 0, and on at anything else.
+// The rule that a call means, with its index in the full listing and the mark of its result. The operands are their types and, beside
+// them, their marks. The concrete-only switch is off at 0, and on at anything else.
 #[no_mangle]
-pub extern "C" fn azwukran_call(function: u8, operands: &[u8], switch: u8) -> ChosenForC
-    ensures { λ r. ⌜ r ≡ chosenForC (callOf functionCount listingOf (on switch) function (now (operands .entry))) ⌝ }
+pub extern "C" fn azwukran_call(function: u8, types: &[u8], marks: &[u8], switch: u8) -> ChosenForC
+    ensures { λ r. ⌜ r ≡ chosenForC (callOf functionCount listingOf (on switch) function (now (types .entry)) (now (marks .entry))) ⌝ }
 {
-    chosen_for_c(call_of(function, operands, switch != 0))
+    call_for_c(call_of(function, types, marks, switch != 0))
 }
 
 // The rules of the full listing that survive a call, as a mask in front of the lent bytes. Refused as the call is, then 10 with the bytes
@@ -41,14 +42,15 @@ pub extern "C" fn azwukran_call(function: u8, operands: &[u8], switch: u8) -> Ch
 #[no_mangle]
 pub extern "C" fn azwukran_survivors(
     function: u8,
-    operands: &[u8],
+    types: &[u8],
+    marks: &[u8],
     switch: u8,
     out: &mut [u8],
 ) -> MaskForC
-    ensures answer { λ r. ⌜ r ≡ maskForC (inRoom (length (listingOf function)) (now (out .entry)) (survivorsOfCall functionCount listingOf (on switch) function (now (operands .entry)))) ⌝ }
-    ensures lent { λ _. ⌜ now (out .exit) ≡ lentBy (length (listingOf function)) (survivorsOfCall functionCount listingOf (on switch) function (now (operands .entry))) (now (out .entry)) ⌝ }
+    ensures answer { λ r. ⌜ r ≡ maskForC (inRoom (length (listingOf function)) (now (out .entry)) (survivorsOfCall functionCount listingOf (on switch) function (now (types .entry)) (now (marks .entry)))) ⌝ }
+    ensures lent { λ _. ⌜ now (out .exit) ≡ lentBy (length (listingOf function)) (survivorsOfCall functionCount listingOf (on switch) function (now (types .entry)) (now (marks .entry))) (now (out .entry)) ⌝ }
 {
-    let survivors = survivors_of(function, operands, switch != 0);
+    let survivors = survivors_of(function, types, marks, switch != 0);
     lend_survivors(survivors, rules_of(function), out)
 }
 

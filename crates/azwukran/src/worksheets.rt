@@ -8,7 +8,6 @@ ghost use Rattle.worksheet.specs.Answer.{bufferAfter};
 ghost use Rattle.worksheet.specs.Typing.{typing, answerOf};
 ghost use Rattle.c_answers.specs.Answers.{typeForC, runForC};
 ghost use Rattle.azwukran.specs.Questions.{on};
-use c_answers::FREE;
 use c_answers::NO_VALUE;
 use c_answers::RunForC;
 use c_answers::STOPPED;
@@ -19,7 +18,7 @@ use scalars::UNUSED;
 use worksheet::TypeAnswer;
 use worksheet::type_expression;
 
-// The type of an expression and its worksheet's length, with the worksheet in front of the lent bytes.
+// The type and the mark of an expression and its worksheet's length, with the worksheet in front of the lent bytes.
 #[no_mangle]
 pub extern "C" fn azwukran_type(bytes: &[u8], switch: u8, out: &mut [u8]) -> TypeForC
     ensures answer { λ r. ⌜ r ≡ typeForC (answerOf (typing (on switch) (now (bytes .entry)) (now (out .entry)))) ⌝ }
@@ -29,14 +28,14 @@ pub extern "C" fn azwukran_type(bytes: &[u8], switch: u8, out: &mut [u8]) -> Typ
         TypeAnswer::Refused(why) => TypeForC {
             number: why.number(),
             code: UNUSED,
-            mark: FREE,
+            mark: UNUSED,
             length: NO_VALUE,
             place: why.place(),
         },
-        TypeAnswer::Typed { code, len } => TypeForC {
+        TypeAnswer::Typed { result, len } => TypeForC {
             number: 0,
-            code: code,
-            mark: FREE,
+            code: result.code,
+            mark: result.mark(),
             length: len,
             place: 0,
         },
@@ -52,14 +51,18 @@ pub extern "C" fn azwukran_run(sheet: &[u8]) -> RunForC
         Run::Stopped(line) => RunForC {
             number: STOPPED,
             top: UNUSED,
-            mark: FREE,
+            mark: UNUSED,
             operands: NO_VALUE,
             place: line,
         },
-        Run::Ended { operands, top } => RunForC {
+        Run::Ended {
+            operands,
+            top,
+            mark,
+        } => RunForC {
             number: 0,
             top: top,
-            mark: FREE,
+            mark: mark,
             operands: operands,
             place: 0,
         },

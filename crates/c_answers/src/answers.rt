@@ -2,9 +2,6 @@
 
 use scalars::UNUSED;
 
-// What stands in a field that is kept free.
-pub const FREE: u8 = UNUSED;
-
 // What stands for no value in a field as wide as a place.
 pub const NO_VALUE: usize = UNUSED as usize;
 
@@ -29,7 +26,7 @@ pub struct ChosenForC {
     // How many arguments there are.
     pub count: u8,
     pub result: u8,
-    // Kept free for whether the call is constant or measured.
+    // The call's mark: 0 constant, 1 measured, 255 where there is none.
     pub mark: u8,
     pub place: usize,
 }
@@ -75,7 +72,7 @@ pub struct ConsensusForC {
 pub struct TypeForC {
     pub number: u8,
     pub code: u8,
-    // Kept free for whether the expression is constant or measured.
+    // The expression's mark: 0 constant, 1 measured, 255 where there is none.
     pub mark: u8,
     // How many bytes the worksheet takes.
     pub length: usize,
@@ -97,7 +94,7 @@ pub struct RunForC {
     pub number: u8,
     // The type of the topmost operand.
     pub top: u8,
-    // Kept free for whether the topmost operand is constant or measured.
+    // The topmost operand's mark: 0 constant, 1 measured, 255 where there is none.
     pub mark: u8,
     // How many operands are left.
     pub operands: usize,

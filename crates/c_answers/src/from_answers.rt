@@ -1,49 +1,76 @@
 // Each kind of answer put into its struct, case by case.
 
 ghost use mathlib.Core.Path.{_≡_};
-ghost use mathlib.Core.List.{_∷_};
-ghost use Rattle.scalars.specs.Paper.{accepted, refusal, verdictPaper};
+ghost use mathlib.Core.List.{[], _∷_, _++_};
+ghost use Rattle.scalars.specs.Paper.{accepted, refusal, refused, verdictPaper};
 ghost use Rattle.types.specs.TypePaper.{giverValues, consensusPaper};
 ghost use Rattle.rules.specs.RulePaper.{rulePaper, ruleValues};
 ghost use Rattle.regular.specs.SetPaper.{regularPaper, regularValues, conclusionNumber};
-ghost use Rattle.lists.specs.ChosenPaper.{chosenPaper};
+ghost use Rattle.lists.specs.ChosenPaper.{chosenPaper, noChoice};
+ghost use Rattle.calls.specs.CallPaper.{callPaper};
 ghost use Rattle.c_answers.specs.Answers.{chosenForC, ruleForC, regularForC, consensusForC, maskForC};
 use crate::answers::BY_BASE;
 use crate::answers::BY_COMPONENT;
 use crate::answers::ChosenForC;
 use crate::answers::ConsensusForC;
-use crate::answers::FREE;
 use crate::answers::MaskForC;
 use crate::answers::NO_VALUE;
 use crate::answers::RegularForC;
 use crate::answers::RuleForC;
+use calls::CallAnswer;
 use lists::ChosenAnswer;
 use regular::ConclusionRule;
 use regular::Regular;
 use regular::RegularAnswer;
 use rules::Rule;
 use rules::RuleAnswer;
+use scalars::Refusal;
 use scalars::Scalar;
 use scalars::UNUSED;
 use scalars::Verdict;
 use types::ConsensusAnswer;
 use types::Giver;
+use types::Operand;
 
-// The answer where a rule is chosen.
+// The answer where a rule is chosen by itself, without operands and so without a mark.
 pub fn chosen_for_c(answer: ChosenAnswer) -> ChosenForC
     ensures { λ r. ⌜ r ≡ chosenForC (chosenPaper answer) ⌝ }
 {
     match answer {
-        ChosenAnswer::Refused(why) => chosen(why.number(), UNUSED, Rule::BLANK, why.place()),
+        ChosenAnswer::Refused(why) => not_chosen(why),
         ChosenAnswer::Rule(choice) => {
             let rule = choice.rule;
-            chosen(0, choice.index, rule, 0)
+            chosen(0, choice.index, rule, UNUSED, 0)
         }
     }
 }
 
-fn chosen(number: u8, index: u8, rule: Rule, place: usize) -> ChosenForC
-    ensures { λ r. ⌜ r ≡ chosenForC (refusal number place (index ∷ ruleValues rule)) ⌝ }
+// The answer where a call chooses a rule, with the mark of its result.
+pub fn call_for_c(answer: CallAnswer) -> ChosenForC
+    ensures { λ r. ⌜ r ≡ chosenForC (callPaper answer) ⌝ }
+{
+    match answer {
+        CallAnswer::Refused(why) => not_chosen(why),
+        CallAnswer::Called(choice, measured) => {
+            let rule = choice.rule;
+            let result = Operand {
+                code: rule.result,
+                measured: measured,
+            };
+            chosen(0, choice.index, rule, result.mark(), 0)
+        }
+    }
+}
+
+// The answer where no rule is chosen.
+fn not_chosen(why: Refusal) -> ChosenForC
+    ensures { λ r. ⌜ r ≡ chosenForC (refused why noChoice) ⌝ }
+{
+    chosen(why.number(), UNUSED, Rule::BLANK, UNUSED, why.place())
+}
+
+fn chosen(number: u8, index: u8, rule: Rule, mark: u8, place: usize) -> ChosenForC
+    ensures { λ r. ⌜ r ≡ chosenForC (refusal number place ((index ∷ ruleValues rule) ++ (mark ∷ []))) ⌝ }
 {
     ChosenForC {
         number: number,
@@ -54,7 +81,7 @@ fn chosen(number: u8, index: u8, rule: Rule, place: usize) -> ChosenForC
         a3: rule.a3,
         count: rule.count,
         result: rule.result,
-        mark: FREE,
+        mark: mark,
         place: place,
     }
 }

@@ -12,4 +12,6 @@ pub mod ListCalls
 pub mod Callables
 pub mod FunctionCalls
 pub mod OutcomePapers
+pub mod CallPapers
 pub mod CallTests
+pub mod OperandTests

@@ -116,16 +116,18 @@ module _ (switch : Bool) (rules : List Signature) (ts : List ℕ) where
 
   -- ---- what a choice names is there
 
-  -- a rule at its index, where the number of operands is the longest rule's; one of the operands
+  -- a rule at its index that passes all the steps, where the number of operands is the longest rule's; one of the operands
   abbrev pub There : Choice → Type 0
-  There (chosen i r) = (length ts ≡ longest rules) × (getElem? rules i ≡ some r)
+  There (chosen i r) = (length ts ≡ longest rules) × (getElem? rules i ≡ some r) × (passesAll switch ts r ≡ true)
   There wrongCount = Unit
   There (noneAfter part k) = k < length ts
   There noneConcrete = Unit
 
   first-there : length ts ≡ longest rules → (s : List Entry) → s ≡ surviving → There (first s)
   first-there l [] e = tt
-  first-there l (x ∷ xs) e = (l, first-is (passesAll switch ts) rules (x .index) (x .rule) (ap first (sym e)) .there)
+  first-there l (x ∷ xs) e =
+      let f = first-is (passesAll switch ts) rules (x .index) (x .rule) (ap first (sym e)) in
+      (l, f .there, f .passes)
 
   narrowed-there : length ts ≡ longest rules → (y : Narrowed) → Narrows ts 0 (number 0 rules) y → There (afterOperands switch y)
   narrowed-there l (left s) h = first-there l (concreteStep switch s) (left-is s (h .0))

@@ -6,6 +6,8 @@ use Prim.Native.Nat.{ℕ, suc}
 use lib.Dec.{ltb}
 use lib.ListN.{length}
 use Rattle.scalars.specs.Mask.{choose, either}
+use Rattle.types.specs.Operand.{codes, anyMeasured, concreteOnly}
+use Rattle.types.specs.declared.operand.Operand.{Operand}
 use Rattle.rules.specs.Signature.{Signature, fits, concrete}
 use Rattle.rules.specs.declared.rule.Part.{Part}
 use Rattle.rules.specs.declared.rule.Part.the-variants.{Shape, Number}
@@ -69,3 +71,7 @@ afterOperands switch (left s) = first (concreteStep switch s)
 
 unfoldable pub resolve : Bool → List Signature → List ℕ → Choice
 resolve switch rules ts = ifCounted rules ts wrongCount (afterOperands switch (narrow ts 0 (number 0 rules)))
+
+-- document 02, (v): a call is measured if any operand is, and then, as with the switch on, a rule with an abstract argument is dropped
+abbrev pub resolveOf : Bool → List Signature → List Operand → Choice
+resolveOf switch rules os = resolve (concreteOnly switch (anyMeasured os)) rules (codes os)

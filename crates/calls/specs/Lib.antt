@@ -2,5 +2,6 @@
 pub mod Choice
 pub mod Call
 pub mod OutcomePaper
+pub mod CallPaper
 pub mod SurvivorsPaper
 pub mod private

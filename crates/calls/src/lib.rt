@@ -14,5 +14,6 @@ pub use function_call::call_of;
 pub use function_call::outcome_of;
 pub use function_call::survivors_of;
 pub use function_list::full_list;
+pub use outcome::CallAnswer;
 pub use outcome::Outcome;
 pub use outcome::none_left;

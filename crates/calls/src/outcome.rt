@@ -4,12 +4,12 @@
 ghost use mathlib.Core.Path.{_≡_};
 ghost use mathlib.Core.List.{[]};
 ghost use Rattle.scalars.specs.Paper.{refusal, refusalPaper};
-ghost use Rattle.lists.specs.ChosenPaper.{chosenPaper};
 ghost use Rattle.calls.specs.Choice.{noneLeft};
+ghost use Rattle.calls.specs.Call.{withMark};
+ghost use Rattle.calls.specs.CallPaper.{callPaper};
 ghost use Rattle.calls.specs.OutcomePaper.{outcomePaper};
 ghost use Rattle.calls.specs.private.Steps.{OutcomePlaced};
 use lists::Chosen;
-use lists::ChosenAnswer;
 use rules::Part;
 use scalars::Refusal;
 
@@ -24,6 +24,13 @@ pub enum Outcome {
     NoneConcrete,
 }
 
+// The answer to a call by itself.
+pub enum CallAnswer {
+    // The chosen rule, and whether its result is measured.
+    Called(Chosen, bool),
+    Refused(Refusal),
+}
+
 // The refusal where a step by this part leaves no rule: 6 by its shape, 16 by its number.
 pub fn none_left(part: Part, place: usize) -> Refusal
     ensures { λ r. ⌜ refusalPaper r ≡ refusal (noneLeft part) place [] ⌝ }
@@ -34,15 +41,16 @@ pub fn none_left(part: Part, place: usize) -> Refusal
     }
 }
 
-// The answer to a call by itself: refused 5 at 0 for a wrong count, 6 or 16 at 1 + index for an operand, 1 at 0 for the concrete-only step.
-pub(crate) fn single(outcome: Outcome) -> ChosenAnswer
+// The answer to a call by itself, whose operands are all constant or not: refused 5 at 0 for a wrong count, 6 or 16 at 1 + index for an
+// operand, 1 at 0 for the concrete-only step.
+pub(crate) fn single(outcome: Outcome, measured: bool) -> CallAnswer
     requires { ⌜ OutcomePlaced outcome ⌝ }
-    ensures { λ r. ⌜ chosenPaper r ≡ outcomePaper outcome ⌝ }
+    ensures { λ r. ⌜ callPaper r ≡ withMark measured (outcomePaper outcome) ⌝ }
 {
     match outcome {
-        Outcome::Rule(chosen) => ChosenAnswer::Rule(chosen),
-        Outcome::WrongCount => ChosenAnswer::Refused(Refusal::WrongCount(0)),
-        Outcome::NoneAfter(part, operand) => ChosenAnswer::Refused(none_left(part, 1 + operand)),
-        Outcome::NoneConcrete => ChosenAnswer::Refused(Refusal::EmptySet(0)),
+        Outcome::Rule(chosen) => CallAnswer::Called(chosen, measured),
+        Outcome::WrongCount => CallAnswer::Refused(Refusal::WrongCount(0)),
+        Outcome::NoneAfter(part, operand) => CallAnswer::Refused(none_left(part, 1 + operand)),
+        Outcome::NoneConcrete => CallAnswer::Refused(Refusal::EmptySet(0)),
     }
 }

@@ -7,7 +7,8 @@ use native.Mathlib.Omega.{arith}
 use native.Mathlib.Decide.{decLt}
 use lib.ListN.{length, getD, drop, drop-of-length-le}
 use lib.Seq.{drop-cons, drop-drop, drop-append-seam}
-use Rattle.expressions.specs.Tree.{Leaf, Tree, Trees, leaf, call, count, leafTag, callTag, bytesOf, bytesOfAll}
+use Rattle.types.specs.declared.operand.Operand.{Operand}
+use Rattle.expressions.specs.Tree.{Tree, Trees, leaf, call, count, tagOf, callTag, bytesOf, bytesOfAll}
 
 -- a byte that is present stands in front of the bytes behind it
 pub head-at : (s : List ℕ) (at next : ℕ) → at < length s → next ≡ at + 1 → drop at s ≡ getD s at 0 ∷ drop next s
@@ -34,16 +35,16 @@ pub after : (s part rest : List ℕ) (at : ℕ) → drop at s ≡ part ++ rest �
 after s part rest at e = sym (drop-drop (length part) at s) ∙ ap (drop (length part)) e ∙ drop-append-seam part rest
 
 -- the two bytes of a leaf
-pub record LeafThere (s : List ℕ) (at : ℕ) (l : Leaf) : Type 0 where
+pub record LeafThere (s : List ℕ) (at : ℕ) (l : Operand) : Type 0 where
   pub here : at + 1 < length s
-  pub tag : getD s at 0 ≡ leafTag
-  pub type-is : getD s (at + 1) 0 ≡ l .type
+  pub tag : getD s at 0 ≡ tagOf (l .measured)
+  pub type-is : getD s (at + 1) 0 ≡ l .code
 
-pub leaf-there : (s : List ℕ) (at : ℕ) (l : Leaf) (rest : List ℕ) → drop at s ≡ bytesOf (leaf l) ++ rest → LeafThere s at l
+pub leaf-there : (s : List ℕ) (at : ℕ) (l : Operand) (rest : List ℕ) → drop at s ≡ bytesOf (leaf l) ++ rest → LeafThere s at l
 unfolding bytesOf
 leaf-there s at l rest text =
-    let x = front s at (at + 1) leafTag (l .type ∷ rest) (omega arith) text in
-    let y = front s (at + 1) (at + 2) (l .type) rest (omega arith) (x .behind) in
+    let x = front s at (at + 1) (tagOf (l .measured)) (l .code ∷ rest) (omega arith) text in
+    let y = front s (at + 1) (at + 2) (l .code) rest (omega arith) (x .behind) in
     record { here = y .here; tag = x .byte; type-is = y .byte }
 
 -- the three bytes of a call, and its arguments behind them

@@ -1,17 +1,19 @@
 -- Whatever the first pass reads is there: the bytes from a node's offset to the offset behind it are those of the tree that is
--- handed back, every code in it is known, and it keeps to the limit on nodes.
+-- handed back, every code in it is known, no measured leaf is abstract, and it keeps to the limit on nodes.
 -- Assumes nothing.
 use mathlib.Core.Path.{_≡_, refl, sym, ap, ap₂, subst, _∙_}
-use mathlib.Core.Bool.{Bool, true, false}
+use mathlib.Core.Bool.{Bool, true, false, not}
 use mathlib.Core.List.{List, _∷_, _++_, append-assoc, append-nil}
 use Prim.Native.Nat.{ℕ, zero, suc, _+_, _≤_, _<_}
 use native.Mathlib.Omega.{arith}
-use borrow.Author.Tests.{leb-true, ltb-true, ltb-false, eqb-true}
+use Rattle.types.specs.Operand.{measuredAbstract}
+use borrow.Author.Tests.{not-true, leb-true, ltb-true, ltb-false, eqb-true}
 use lib.Dec.{eqb, leb, ltb}
 use lib.ListN.{length, drop, length-append, drop-of-length-le}
 use Rattle.scalars.specs.Mask.{choose}
-use Rattle.expressions.specs.Tree.{Tree, Trees, call, more, count, bytesOf, bytesOfAll, nodes, nodesAll, mostNodes, deepest, lastLeaf, leafTag, callTag}
+use Rattle.expressions.specs.Tree.{Tree, Trees, call, more, count, bytesOf, bytesOfAll, nodes, nodesAll, mostNodes, deepest, lastLeaf, leafTag, callTag, measuredTag, tagOf}
 use Rattle.expressions.specs.Known.{Known, KnownAll}
+use Rattle.expressions.specs.Limits.{Measurable, MeasurableAll}
 use Rattle.expressions.specs.Reading.{Reading, done, refused, Expression, read, refusedAs, demand, andThen, argsAt, present, byteAt, leafAt, callAt, taggedAt, nodeAt, whole, expressionOf}
 use Rattle.expressions.proofs.Bytes.{head-at}
 
@@ -25,6 +27,7 @@ pub record Found (functions : ℕ) (s : List ℕ) (d at n : ℕ) (e : Tree) (nex
   pub ends : next ≡ at + length (bytesOf e)
   pub inside : next ≤ length s
   pub known : Known functions e
+  pub measurable : Measurable e
   pub counted : m ≡ n + nodes e
   pub few : m ≤ mostNodes
 
@@ -35,6 +38,7 @@ pub record FoundAll (functions : ℕ) (s : List ℕ) (d left at n : ℕ) (es : T
   pub ends : next ≡ at + length (bytesOfAll es)
   pub inside : next ≤ length s
   pub known : KnownAll functions es
+  pub measurable : MeasurableAll es
   pub counted : m ≡ n + nodesAll es
   pub few : m ≤ mostNodes
 
@@ -68,7 +72,7 @@ module _ (functions : ℕ) (s : List ℕ) (d : ℕ) where
 
   in-front-sound : (left at n : ℕ) (e : Tree) (next m : ℕ) (others : Reading Trees) → Found functions s d at n e next m
       → SoundAll functions s d left next m others → SoundAll functions s d (suc left) at n (andThen others (λ es. done (more e es)))
-  unfolding count bytesOf nodes Known
+  unfolding count bytesOf nodes Known Measurable
   in-front-sound left at n e next m (refused number place) one rest = tt
   in-front-sound left at n e next m (done es end k) one rest = record {
     many = ap suc (rest .many);
@@ -76,6 +80,7 @@ module _ (functions : ℕ) (s : List ℕ) (d : ℕ) where
     ends = omega (arith, length-append (bytesOf e) (bytesOfAll es));
     inside = rest .inside;
     known = (one .known, rest .known);
+    measurable = (one .measurable, rest .measurable);
     counted = omega arith;
     few = rest .few;
   }
@@ -87,30 +92,33 @@ module _ (functions : ℕ) (s : List ℕ) (d : ℕ) where
       in-front-sound left at n e next m (others next m) k (rest next m (k .inside) (k .few))
 
   args-sound : (node : ℕ → ℕ → Reading Tree) → Nodes node → (left : ℕ) → Others left (argsAt node left)
-  unfolding argsAt count bytesOf nodes Known
+  unfolding argsAt count bytesOf nodes Known Measurable
   args-sound node k zero at n here few = record {
     many = refl;
     text = refl;
     ends = omega arith;
     inside = here;
     known = tt;
+    measurable = tt;
     counted = omega arith;
     few = few;
   }
   args-sound node k (suc left) at n here few = then-sound left at n (node at n) (argsAt node left) (k at n) (args-sound node k left)
 
   module _ (at n : ℕ) (here : at < length s) (few : n < mostNodes) where
-    leaf-sound : byteAt s at ≡ leafTag → Sound functions s (suc d) at n (leafAt s at n)
-    unfolding leafAt bytesOf nodes Known
-    leaf-sound tag =
+    leaf-sound : (measured : Bool) → byteAt s at ≡ tagOf measured → Sound functions s (suc d) at n (leafAt measured s at n)
+    unfolding leafAt bytesOf nodes Known Measurable
+    leaf-sound measured tag =
         demanded functions s (suc d) at n (present s (at + 1)) _ _ _ λ p.
         demanded functions s (suc d) at n (leb (byteAt s (at + 1)) lastLeaf) _ _ _ λ k.
+        demanded functions s (suc d) at n (not (measuredAbstract (record { code = byteAt s (at + 1); measured = measured }))) _ _ _ λ m.
         let h : at + 1 < length s = ltb-true _ _ p in
         record {
           text = head-at s at (at + 1) here refl ∙ ap₂ _∷_ tag (head-at s (at + 1) (at + 2) h (omega arith));
           ends = omega arith;
           inside = omega arith;
           known = leb-true _ _ k;
+          measurable = not-true _ m;
           counted = omega arith;
           few = omega arith;
         }
@@ -118,7 +126,7 @@ module _ (functions : ℕ) (s : List ℕ) (d : ℕ) where
     call-of-sound : byteAt s at ≡ callTag → byteAt s (at + 1) < functions → at + 2 < length s → (args : Reading Trees)
         → SoundAll functions s d (byteAt s (at + 2)) (at + 3) (n + 1) args
         → Sound functions s (suc d) at n (andThen args (λ es. done (call (byteAt s (at + 1)) es)))
-    unfolding bytesOf nodes Known
+    unfolding bytesOf nodes Known Measurable
     call-of-sound tag known h (refused number place) args = tt
     call-of-sound tag known h (done es next m) args =
         let number = head-at s (at + 2) (at + 3) h (omega arith) ∙ ap₂ _∷_ (sym (args .many)) (args .text) in
@@ -128,6 +136,7 @@ module _ (functions : ℕ) (s : List ℕ) (d : ℕ) where
           ends = omega arith;
           inside = args .inside;
           known = (known, args .known);
+          measurable = args .measurable;
           counted = omega arith;
           few = args .few;
         }
@@ -147,10 +156,12 @@ module _ (functions : ℕ) (s : List ℕ) (d : ℕ) where
     unfolding taggedAt
     tagged-sound node k =
         either-way functions s (suc d) at n (eqb (byteAt s at) leafTag) _ _
-        (λ t. leaf-sound (eqb-true _ _ t))
+        (λ t. leaf-sound false (eqb-true _ _ t))
         (λ _. either-way functions s (suc d) at n (eqb (byteAt s at) callTag) _ _
         (λ t. call-sound node k (eqb-true _ _ t))
-        (λ _. tt))
+        (λ _. either-way functions s (suc d) at n (eqb (byteAt s at) measuredTag) _ _
+        (λ t. leaf-sound true (eqb-true _ _ t))
+        (λ _. tt)))
 
 module _ (functions : ℕ) (s : List ℕ) where
   pub node-sound : (d at n : ℕ) → Sound functions s d at n (nodeAt functions s d at n)
@@ -167,6 +178,7 @@ module _ (functions : ℕ) (s : List ℕ) where
 pub record Spelt (functions : ℕ) (s : List ℕ) (e : Tree) : Type 0 where
   pub text : s ≡ bytesOf e
   pub known : Known functions e
+  pub measurable : Measurable e
   pub few : nodes e ≤ mostNodes
 
 module _ (functions : ℕ) (s : List ℕ) where
@@ -180,6 +192,7 @@ module _ (functions : ℕ) (s : List ℕ) where
   nothing-left e at n k false p = record {
     text = k .text ∙ ap (λ l. bytesOf e ++ l) (drop-of-length-le s (ltb-false _ _ p)) ∙ append-nil (bytesOf e);
     known = k .known;
+    measurable = k .measurable;
     few = omega (arith, k .counted, k .few);
   }
 

@@ -2,32 +2,44 @@
 -- `read_arguments` and `read_expression`. Each says where the reading gets to, so that the functions' proofs only cite it.
 -- Assumes nothing.
 use mathlib.Core.Path.{_≡_, refl, sym, ap, ap₂, _∙_}
+use mathlib.Core.Bool.{Bool, true, false}
 use mathlib.Core.List.{List, [], _∷_}
 use Prim.Native.Nat.{ℕ, zero, suc, _+_, _-_, _≤_, _<_}
 use native.Mathlib.Omega.{arith}
 use borrow.Author.Tests.{le-leb, lt-leb, lt-ltb, le-ltb, eq-eqb, ne-eqb}
 use lib.ListN.{length}
 use Rattle.scalars.specs.Paper.{accepted, refusal}
-use Rattle.expressions.specs.Tree.{Tree, Trees, call, more, mostNodes, deepest, lastLeaf, leafTag, callTag}
+use Rattle.types.specs.Operand.{measuredAbstract}
+use Rattle.types.specs.declared.operand.Operand.{Operand}
+use Rattle.expressions.specs.Tree.{Tree, Trees, call, more, mostNodes, deepest, lastLeaf, leafTag, callTag, measuredTag}
 use Rattle.expressions.specs.Reading.{Reading, done, refused, andThen, argsAt, byteAt, leafAt, callAt, taggedAt, nodeAt, whole, expressionOf, readOf}
 use Rattle.expressions.specs.private.Step.{stepOf, levelsLeft}
 use Rattle.expressions.proofs.Answers.{accepted-refused}
 use Rattle.expressions.proofs.Bytes.{bytes-least}
 use Rattle.expressions.proofs.Sound.{followed, Sound, node-sound}
 
-module _ (s : List ℕ) (at n : ℕ) where
-  pub leaf-cut : length s ≤ at + 1 → refusal 8 (at + 1) [] ≡ stepOf (leafAt s at n)
+module _ (measured : Bool) (s : List ℕ) (at n : ℕ) where
+  -- the leaf there
+  abbrev there : Operand
+  there = record { code = byteAt s (at + 1); measured = measured }
+
+  pub leaf-cut : length s ≤ at + 1 → refusal 8 (at + 1) [] ≡ stepOf (leafAt measured s at n)
   unfolding leafAt
   leaf-cut h = simp (le-ltb (at + 1) (length s) h)
 
   module _ (here : at + 1 < length s) where
-    pub leaf-unknown : lastLeaf < byteAt s (at + 1) → refusal 7 (at + 1) [] ≡ stepOf (leafAt s at n)
+    pub leaf-unknown : lastLeaf < byteAt s (at + 1) → refusal 7 (at + 1) [] ≡ stepOf (leafAt measured s at n)
     unfolding leafAt
     leaf-unknown h = simp (lt-ltb (at + 1) (length s) here, lt-leb (byteAt s (at + 1)) lastLeaf h)
 
-    pub leaf-read : byteAt s (at + 1) ≤ lastLeaf → accepted ((at + 2) ∷ (n + 1) ∷ []) ≡ stepOf (leafAt s at n)
-    unfolding leafAt
-    leaf-read h = simp (lt-ltb (at + 1) (length s) here, le-leb (byteAt s (at + 1)) lastLeaf h)
+    module _ (known : byteAt s (at + 1) ≤ lastLeaf) where
+      pub leaf-abstract : measuredAbstract there ≡ true → refusal 17 (at + 1) [] ≡ stepOf (leafAt measured s at n)
+      unfolding leafAt
+      leaf-abstract h = simp (lt-ltb (at + 1) (length s) here, le-leb (byteAt s (at + 1)) lastLeaf known, h)
+
+      pub leaf-read : measuredAbstract there ≡ false → accepted ((at + 2) ∷ (n + 1) ∷ []) ≡ stepOf (leafAt measured s at n)
+      unfolding leafAt
+      leaf-read h = simp (lt-ltb (at + 1) (length s) here, le-leb (byteAt s (at + 1)) lastLeaf known, h)
 
 -- what is made of arguments, their call or a longer list of them, ends where they end
 made-ends : {A : Type 0} (make : Trees → A) (args : Reading Trees) → stepOf (andThen args (λ es. done (make es))) ≡ stepOf args
@@ -67,14 +79,19 @@ module _ (functions : ℕ) (s : List ℕ) (at n : ℕ) where
           let e : levelsLeft depth ≡ suc (levelsLeft (depth + 1)) = omega arith in
           ap (λ d. nodeAt functions s d at n) e ∙ simp (lt-ltb at (length s) here, lt-ltb n mostNodes few)
 
-      pub leaf-node : byteAt s at ≡ leafTag → stepOf (leafAt s at n) ≡ stepOf (nodeAt functions s (levelsLeft depth) at n)
+      pub leaf-node : byteAt s at ≡ leafTag → stepOf (leafAt false s at n) ≡ stepOf (nodeAt functions s (levelsLeft depth) at n)
       unfolding taggedAt
       leaf-node tag = sym (ap stepOf allowed ∙ simp (eq-eqb (byteAt s at) leafTag tag))
 
-      pub unknown-tag : (byteAt s at ≡ leafTag → ⊥) → (byteAt s at ≡ callTag → ⊥)
+      pub measured-node : byteAt s at ≡ measuredTag → stepOf (leafAt true s at n) ≡ stepOf (nodeAt functions s (levelsLeft depth) at n)
+      unfolding taggedAt
+      measured-node tag = sym (ap stepOf allowed ∙ simp tag)
+
+      pub unknown-tag : (byteAt s at ≡ leafTag → ⊥) → (byteAt s at ≡ callTag → ⊥) → (byteAt s at ≡ measuredTag → ⊥)
           → refusal 8 at [] ≡ stepOf (nodeAt functions s (levelsLeft depth) at n)
       unfolding taggedAt
-      unknown-tag l c = sym (ap stepOf allowed ∙ simp (ne-eqb (byteAt s at) leafTag l, ne-eqb (byteAt s at) callTag c))
+      unknown-tag l c m =
+          sym (ap stepOf allowed ∙ simp (ne-eqb (byteAt s at) leafTag l, ne-eqb (byteAt s at) callTag c, ne-eqb (byteAt s at) measuredTag m))
 
       module _ (tag : byteAt s at ≡ callTag) where
         call-node : nodeAt functions s (levelsLeft depth) at n ≡ callAt functions s (nodeAt functions s (levelsLeft (depth + 1))) at n

@@ -5,7 +5,7 @@ use Rattle.expressions.specs.Tree.{Tree, Trees, leaf, call, none, more, 
 -- with so many functions; any number of arguments is known
 unfoldable mutual
   pub Known : ℕ → Tree → Type 0
-  Known functions (leaf l) = l .type ≤ lastLeaf
+  Known functions (leaf l) = l .code ≤ lastLeaf
   Known functions (call f es) = (f < functions) × KnownAll functions es
 
   pub KnownAll : ℕ → Trees → Type 0

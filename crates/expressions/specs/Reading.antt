@@ -2,13 +2,14 @@
 -- and the arguments through their nodes. Reading hands back the tree that it found, so that whatever is said of expressions is
 -- said of trees. Offsets count from the front of the whole byte string.
 use Prim.Native.Nat.{ℕ, zero, suc, _+_}
-use mathlib.Core.Bool.{Bool}
+use mathlib.Core.Bool.{Bool, true, false, not}
 use mathlib.Core.List.{List, [], _∷_}
 use lib.Dec.{eqb, leb, ltb}
 use lib.ListN.{length, getD}
 use Rattle.scalars.specs.Mask.{choose}
 use Rattle.scalars.specs.Paper.{Paper, accepted, refusal, unused}
-use Rattle.expressions.specs.Tree.{Tree, Trees, leaf, call, none, more, nodes, mostNodes, deepest, lastLeaf, leafTag, callTag}
+use Rattle.types.specs.Operand.{measuredAbstract}
+use Rattle.expressions.specs.Tree.{Tree, Trees, leaf, call, none, more, nodes, mostNodes, deepest, lastLeaf, leafTag, callTag, measuredTag}
 
 -- what was read, a node or a call's arguments, the offset behind it and the number of nodes read so far; or the first fault, by its
 -- number and place
@@ -39,12 +40,13 @@ present s at = ltb at (length s)
 abbrev pub byteAt : List ℕ → ℕ → ℕ
 byteAt s at = getD s at 0
 
--- a leaf whose tag is at `at`: its type is present (8) and known (7)
-unfoldable pub leafAt : List ℕ → ℕ → ℕ → Reading Tree
-leafAt s at nodes =
+-- a leaf whose tag is at `at`, constant or measured: its type is present (8) and known (7), and a measured one's is not abstract (17)
+unfoldable pub leafAt : Bool → List ℕ → ℕ → ℕ → Reading Tree
+leafAt measured s at nodes =
     demand (present s (at + 1)) 8 (at + 1)
     (demand (leb (byteAt s (at + 1)) lastLeaf) 7 (at + 1)
-    (done (leaf (record { type = byteAt s (at + 1) })) (at + 2) (nodes + 1)))
+    (demand (not (measuredAbstract (record { code = byteAt s (at + 1); measured = measured }))) 17 (at + 1)
+    (done (leaf (record { code = byteAt s (at + 1); measured = measured })) (at + 2) (nodes + 1))))
 
 -- a call whose tag is at `at`: its function is present (8) and known (7), its number of arguments is present (8); then the arguments
 unfoldable pub callAt : ℕ → List ℕ → (ℕ → ℕ → Reading Tree) → ℕ → ℕ → Reading Tree
@@ -57,9 +59,10 @@ callAt functions s node at nodes =
 -- a node by its tag, which is known (8)
 unfoldable pub taggedAt : ℕ → List ℕ → (ℕ → ℕ → Reading Tree) → ℕ → ℕ → Reading Tree
 taggedAt functions s node at nodes =
-    choose (eqb (byteAt s at) leafTag) (leafAt s at nodes)
+    choose (eqb (byteAt s at) leafTag) (leafAt false s at nodes)
     (choose (eqb (byteAt s at) callTag) (callAt functions s node at nodes)
-    (refused 8 at))
+    (choose (eqb (byteAt s at) measuredTag) (leafAt true s at nodes)
+    (refused 8 at)))
 
 -- a node that may have so many levels, its own included, with `nodes` nodes before it: its tag is present (8), it is not the
 -- 65th and not too deep (9); then by its tag

@@ -5,6 +5,7 @@ pub use expression::CALL;
 pub use expression::DEEPEST;
 pub use expression::LAST_LEAF;
 pub use expression::LEAF;
+pub use expression::MEASURED_LEAF;
 pub use expression::MOST_NODES;
 pub use expression::Read;
 pub use expression::read_expression;

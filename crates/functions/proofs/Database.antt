@@ -76,7 +76,7 @@ pub unknown-none : (f : ℕ) → functionCount ≤ f → listingOf f ≡ []
 unfolding listingOf regularRules codesOf bits
 unknown-none f h = ap rulesIn (no-function h)
 
-each-listing : (p : List Signature → Bool) → every (λ s. p (rulesIn s)) functionSets ≡ true → p [] ≡ true → (f : ℕ) → p (listingOf f) ≡ true
+pub each-listing : (p : List Signature → Bool) → every (λ s. p (rulesIn s)) functionSets ≡ true → p [] ≡ true → (f : ℕ) → p (listingOf f) ≡ true
 unfolding listingOf regularRules codesOf bits
 each-listing p e u f = each-number (λ s. p (rulesIn s)) e u f
 
@@ -86,7 +86,7 @@ unfolding functionSets bits regularRules codesOf listedRules floatScalars concre
 short-rules f = each-listing (every short?) refl refl f
 
 -- an element of a list that passes a test throughout
-every-element : (p : Signature → Bool) (rs : List Signature) → every p rs ≡ true → (i : ℕ) (r : Signature) → getElem? rs i ≡ some r → p r ≡ true
+pub every-element : (p : Signature → Bool) (rs : List Signature) → every p rs ≡ true → (i : ℕ) (r : Signature) → getElem? rs i ≡ some r → p r ≡ true
 every-element p [] e i r h = let z : _≡_ {A = ℕ} 0 1 = cc in absurd (omega arith)
 every-element p (x ∷ rs) e zero r h = let g : x ≡ r = cc in subst (λ (s : Signature). p s ≡ true) g (both-true (p x) (every p rs) e .0)
 every-element p (x ∷ rs) e (suc i) r h = every-element p rs (both-true (p x) (every p rs) e .1) i r h

@@ -1,5 +1,5 @@
--- When the machine's test finds two lists the same: exactly when they are equal; and two of one length, if each element of one is the
--- element of the other at that place, found one by one.
+-- When the machine's test finds operands to be of given types: exactly when these are theirs; and as many operands as types, if each
+-- operand is of the type at its place, found one by one.
 -- Assumes nothing.
 use mathlib.Core.Path.{_≡_, refl, sym, _∙_}
 use mathlib.Core.Bool.{true, false, false≢true}
@@ -12,29 +12,31 @@ use lib.Seq.{drop-cons}
 use borrow.Author.Tests.{eqb-true, eq-eqb}
 use Rattle.scalars.specs.Mask.{both}
 use Rattle.scalars.proofs.Filters.{both-left, both-right}
+use Rattle.types.specs.Operand.{codes}
+use Rattle.types.specs.declared.operand.Operand.{Operand}
 use Rattle.machine.specs.Machine.{same}
 
-pub same-same : (xs : List ℕ) → same xs xs ≡ true
+pub same-same : (xs : List Operand) → same xs (codes xs) ≡ true
 same-same [] = refl
-same-same (x ∷ xs) = rw (eq-eqb x x refl) (same-same xs)
+same-same (x ∷ xs) = rw (eq-eqb (x .code) (x .code) refl) (same-same xs)
 
-pub same-is : (xs ys : List ℕ) → same xs ys ≡ true → xs ≡ ys
+pub same-is : (xs : List Operand) (ys : List ℕ) → same xs ys ≡ true → codes xs ≡ ys
 same-is [] [] e = refl
 same-is [] (y ∷ ys) e = absurd (false≢true e)
 same-is (x ∷ xs) [] e = absurd (false≢true e)
 same-is (x ∷ xs) (y ∷ ys) e =
-    rw (eqb-true x y (both-left (eqb x y) (same xs ys) e), same-is xs ys (both-right (eqb x y) (same xs ys) e))
+    rw (eqb-true (x .code) y (both-left (eqb (x .code) y) (same xs ys) e), same-is xs ys (both-right (eqb (x .code) y) (same xs ys) e))
 
-module _ (xs ys : List ℕ) (i : ℕ) where
+module _ (xs : List Operand) (ys : List ℕ) (i : ℕ) where
   pub same-end : length xs ≤ i → length ys ≤ i → same (drop i xs) (drop i ys) ≡ true
   same-end h l = rw (drop-of-length-le xs h, drop-of-length-le ys l)
 
-  module _ (d e : ℕ) (h : i < length xs) (l : i < length ys) where
-    same-one : same (drop i xs) (drop i ys) ≡ both (eqb (getD xs i d) (getD ys i e)) (same (drop (i + 1) xs) (drop (i + 1) ys))
+  module _ (d : Operand) (e : ℕ) (h : i < length xs) (l : i < length ys) where
+    same-one : same (drop i xs) (drop i ys) ≡ both (eqb (getD xs i d .code) (getD ys i e)) (same (drop (i + 1) xs) (drop (i + 1) ys))
     same-one = rw (add-one, drop-cons xs i d h, drop-cons ys i e l)
 
-    pub same-differ : eqb (getD xs i d) (getD ys i e) ≡ false → same (drop i xs) (drop i ys) ≡ false
+    pub same-differ : eqb (getD xs i d .code) (getD ys i e) ≡ false → same (drop i xs) (drop i ys) ≡ false
     same-differ p = same-one ∙ rw p
 
-    pub same-next : eqb (getD xs i d) (getD ys i e) ≡ true → same (drop (i + 1) xs) (drop (i + 1) ys) ≡ same (drop i xs) (drop i ys)
+    pub same-next : eqb (getD xs i d .code) (getD ys i e) ≡ true → same (drop (i + 1) xs) (drop (i + 1) ys) ≡ same (drop i xs) (drop i ys)
     same-next p = sym (same-one ∙ rw p)

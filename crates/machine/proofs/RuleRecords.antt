@@ -11,6 +11,7 @@ use lib.Dec.{ltb}
 use lib.ListN.{length, getElem?}
 use borrow.Author.Tests.{ltb-false}
 use Rattle.scalars.specs.Mask.{choose}
+use Rattle.types.specs.declared.operand.Operand.{Operand}
 use Rattle.rules.specs.Signature.{Signature}
 use Rattle.rules.specs.Rule.{mostArguments, signatureOf, ruleOf}
 use Rattle.functions.specs.Functions.{functionCount, listingOf, ruleIn, ruleAt}
@@ -72,10 +73,10 @@ module _ (f i : ℕ) where
       go false h q = ap (λ (rs : List Signature). getElem? rs i) (unknown-none f (ltb-false f functionCount h))
 
 -- a call by the rule that stands there, and a call where none does
-pub called : (n : ℕ) (s : List ℕ) (o : Option Signature) (q : Rule) (r : Stepped) → Stands o q
+pub called : (n : ℕ) (s : List Operand) (o : Option Signature) (q : Rule) (r : Stepped) → Stands o q
     → Did (applyLast n s (some (signatureOf q))) r → Did (applyLast n s o) r
 called n s o q r h d = rw (h .rule-is) d
 
-pub uncalled : (n : ℕ) (s : List ℕ) (o : Option Signature) (k : Stack) → o ≡ none → Did (applyLast n s o) (stop k)
+pub uncalled : (n : ℕ) (s : List Operand) (o : Option Signature) (k : Stack) → o ≡ none → Did (applyLast n s o) (stop k)
 unfolding applyLast
 uncalled n s o k e = rw e

@@ -6,12 +6,13 @@ use Prim.Native.Nat.{ℕ}
 use lib.Dec.{eqb}
 use lib.ListN.{length}
 use Rattle.scalars.specs.Mask.{choose, both}
+use Rattle.types.specs.Operand.{markOf, mark?, operandOf}
+use Rattle.types.specs.declared.operand.Operand.{Operand}
 use Rattle.rules.specs.Signature.{Signature}
-use Rattle.expressions.specs.Tree.{Leaf}
 
 -- a leaf; a conversion: depth from the top of the stack, type; a call: function, index in the full listing, number of arguments
 pub data Line : Type 0 where
-  leafLine : Leaf → Line
+  leafLine : Operand → Line
   conversionLine : ℕ → ℕ → Line
   callLine : ℕ → ℕ → ℕ → Line
 
@@ -26,36 +27,36 @@ conversions (t ∷ ts) (a ∷ az) = choose (eqb t a) (conversions ts az) (conver
 abbrev pub callLines : ℕ → ℕ → List ℕ → Signature → List Line
 callLines f i ts r = conversions ts (r .arguments) ++ (callLine f i (length ts) ∷ [])
 
--- bytes, the first of which marks the kind of line. Leaf: 0, type, 0, 0. Call: 1, function, index, number of arguments. Conversion:
+-- bytes, the first of which is the kind of line. Leaf: 0, type, mark, 0. Call: 1, function, index, number of arguments. Conversion:
 -- 2, depth, type, 0. An expression's tags are numbered apart (specs/Tree.antt)
-abbrev pub leafMark : ℕ
-leafMark = 0
+abbrev pub leafKind : ℕ
+leafKind = 0
 
-abbrev pub callMark : ℕ
-callMark = 1
+abbrev pub callKind : ℕ
+callKind = 1
 
-abbrev pub conversionMark : ℕ
-conversionMark = 2
+abbrev pub conversionKind : ℕ
+conversionKind = 2
 
 abbrev pub fourBytes : Line → List ℕ
-fourBytes (leafLine l) = leafMark ∷ l .type ∷ 0 ∷ 0 ∷ []
-fourBytes (callLine f i n) = callMark ∷ f ∷ i ∷ n ∷ []
-fourBytes (conversionLine d a) = conversionMark ∷ d ∷ a ∷ 0 ∷ []
+fourBytes (leafLine l) = leafKind ∷ l .code ∷ markOf (l .measured) ∷ 0 ∷ []
+fourBytes (callLine f i n) = callKind ∷ f ∷ i ∷ n ∷ []
+fourBytes (conversionLine d a) = conversionKind ∷ d ∷ a ∷ 0 ∷ []
 
 unfoldable pub encode : List Line → List ℕ
 encode [] = []
 encode (l ∷ ls) = fourBytes l ++ encode ls
 
--- and back: an unknown tag, or a spare byte that isn't 0, spells no line
+-- and back: an unknown tag, a mark that is neither 0 nor 1, or a spare byte that isn't 0, spells no line
 abbrev pub onlyIf {ℓ} : {A : Type ℓ} → Bool → Option A → Option A
 onlyIf true x = x
 onlyIf false x = none
 
 abbrev pub lineOf : ℕ → ℕ → ℕ → ℕ → Option Line
 lineOf tag x y z =
-    choose (eqb tag leafMark) (onlyIf (both (eqb y 0) (eqb z 0)) (some (leafLine (record { type = x }))))
-    (choose (eqb tag callMark) (some (callLine x y z))
-    (onlyIf (eqb tag conversionMark) (onlyIf (eqb z 0) (some (conversionLine x y)))))
+    choose (eqb tag leafKind) (onlyIf (both (mark? y) (eqb z 0)) (some (leafLine (operandOf x y))))
+    (choose (eqb tag callKind) (some (callLine x y z))
+    (onlyIf (eqb tag conversionKind) (onlyIf (eqb z 0) (some (conversionLine x y)))))
 
 -- the lines that bytes spell, one after the other: none stands for four bytes that spell no line, and for a partial line at the end
 abbrev pub linesOf : List ℕ → List (Option Line)

@@ -1,16 +1,17 @@
--- Each name names its own type or function, and nothing else does; a test of all words is a test of each. Assumes nothing.
+-- Each name names its own type or function, and nothing else does, the word `measured` neither; a test of all words is a test of each.
+-- Assumes nothing.
 use mathlib.Core.Path.{_≡_, refl, sym, ap, _∙_}
-use mathlib.Core.Bool.{Bool, true, false}
+use mathlib.Core.Bool.{Bool, true, false, not}
 use mathlib.Core.List.{List, [], _∷_, _++_}
 use Prim.Native.Nat.{ℕ, suc, _+_, _-_, _≤_, _<_}
 use native.Mathlib.Omega.{arith}
-use borrow.Author.Tests.{lt-ltb, le-ltb, ltb-true, ltb-false, eqb-true}
+use borrow.Author.Tests.{not-true, lt-ltb, le-ltb, ltb-true, ltb-false, eqb-true}
 use lib.Dec.{eqb, ltb}
 use lib.ListN.{length, getD, length-append, List·getD-append}
 use lib.Seq.{getD-append-add}
 use Rattle.scalars.specs.Mask.{choose, every, upTo}
 use Rattle.functions.specs.Functions.{functionCount}
-use Rattle.names.specs.Names.{bytes, functionNames, scalarNames, shapeNames, shaped, shapedAll, typeNames, typeCount, typeName, functionName, words, wordCount, same, find, aType, aFunction, unknown, numbered, named}
+use Rattle.names.specs.Names.{bytes, functionNames, scalarNames, shapeNames, shaped, shapedAll, typeNames, typeCount, typeName, functionName, words, wordCount, measuredName, same, find, aType, aFunction, unknown, numbered, named}
 use Rattle.names.proofs.SameBytes.{same-is}
 use Rattle.names.proofs.Tests.{at-member, at-number}
 
@@ -144,3 +145,22 @@ unfolding named
 named-function run f e =
     let n = number-of-function (find run words 0) f e in
     (n .0, found-is run (omega (arith, n .0, n .1)) ∙ ap (λ w. getD words w []) (n .1) ∙ function-word f)
+
+-- ---- the word that is neither
+
+pub measured-named : named measuredName ≡ unknown
+unfolding named measuredName find same words typeNames shapedAll shaped shapeNames scalarNames functionNames bytes
+measured-named = refl
+
+abbrev other? : List ℕ → Bool
+other? w = not (same w measuredName)
+
+all-other : every other? words ≡ true
+unfolding measuredName same words typeNames shapedAll shaped shapeNames scalarNames functionNames bytes
+all-other = refl
+
+pub type-other : (t : ℕ) → t < typeCount → same (typeName t) measuredName ≡ false
+type-other t h = not-true (same (typeName t) measuredName) (each-type other? all-other t h)
+
+pub function-other : (f : ℕ) → f < functionCount → same (functionName f) measuredName ≡ false
+function-other f h = not-true (same (functionName f) measuredName) (each-function other? all-other f h)

@@ -75,6 +75,10 @@ words = typeNames ++ functionNames
 abbrev pub wordCount : ℕ
 wordCount = typeCount + functionCount
 
+-- document 02, (v): the word before a measured leaf's type; it is no type and no function
+unfoldable pub measuredName : List ℕ
+measuredName = bytes "measured"
+
 -- whether two byte strings are the same
 unfoldable pub same : List ℕ → List ℕ → Bool
 same [] [] = true

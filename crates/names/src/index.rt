@@ -104,7 +104,7 @@ pub(crate) fn entry(index: &[u8], i: usize) -> usize
 }
 
 // Whether two byte strings are the same.
-fn is_same(a: &[u8], b: &[u8]) -> bool
+pub(crate) fn is_same(a: &[u8], b: &[u8]) -> bool
     ensures { λ r. ⌜ r ≡ same (now (a .entry)) (now (b .entry)) ⌝ }
 {
     if a.len() != b.len() {

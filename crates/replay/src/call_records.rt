@@ -1,18 +1,20 @@
 // Calls of the functions. A record is the function, the concrete-only switch, the eight bytes of the mask of the rules that survive, the
-// index of the preferred one, its result, and the types of the operands.
+// index of the preferred one, its result, the result's mark, then the types of the operands as a part, and behind it their marks.
 
+use crate::parts::first;
+use crate::parts::rest;
 use crate::records::word;
 use crate::rule_records::same;
+use calls::CallAnswer;
 use calls::Survivors;
 use calls::call_of;
 use calls::survivors_of;
 use functions::rule_at;
-use lists::ChosenAnswer;
 use rules::Rule;
 use rules::RuleAnswer;
 
 // The operands' types start here.
-const OPERANDS: usize = 12;
+const OPERANDS: usize = 13;
 
 // Whether the rules that survive, and the one that is chosen, are the stored ones.
 pub fn agrees(record: &[u8]) -> bool {
@@ -22,28 +24,53 @@ pub fn agrees(record: &[u8]) -> bool {
     if 1 < record[1] {
         return false;
     }
-    let switch = record[1] == 1;
-    let operands = &record[OPERANDS..];
-    if !survivors_agree(record[0], operands, switch, mask_of(record)) {
+    if 1 < record[12] {
         return false;
     }
-    choice_agrees(record[0], operands, switch, record[10], record[11])
+    let switch = record[1] == 1;
+    let measured = record[12] == 1;
+    let operands = &record[OPERANDS..];
+    let types = first(operands);
+    let marks = rest(operands);
+    if !survivors_agree(record[0], types, marks, switch, mask_of(record)) {
+        return false;
+    }
+    choice_agrees(
+        record[0],
+        types,
+        marks,
+        switch,
+        record[10],
+        record[11],
+        measured,
+    )
 }
 
 // Whether the survivors are those of the mask.
-fn survivors_agree(function: u8, operands: &[u8], switch: bool, stored: u64) -> bool {
-    match survivors_of(function, operands, switch) {
+fn survivors_agree(function: u8, types: &[u8], marks: &[u8], switch: bool, stored: u64) -> bool {
+    match survivors_of(function, types, marks, switch) {
         Survivors::Refused(_) => false,
         Survivors::Members(members) => members == stored,
     }
 }
 
-// Whether the chosen rule has this index and this result.
-fn choice_agrees(function: u8, operands: &[u8], switch: bool, index: u8, result: u8) -> bool {
-    match call_of(function, operands, switch) {
-        ChosenAnswer::Refused(_) => false,
-        ChosenAnswer::Rule(chosen) => {
+// Whether the chosen rule has this index and this result, which is measured or not.
+fn choice_agrees(
+    function: u8,
+    types: &[u8],
+    marks: &[u8],
+    switch: bool,
+    index: u8,
+    result: u8,
+    measured: bool,
+) -> bool {
+    match call_of(function, types, marks, switch) {
+        CallAnswer::Refused(_) => false,
+        CallAnswer::Called(chosen, marked) => {
             let rule = chosen.rule;
+            if marked != measured {
+                return false;
+            }
             if chosen.index != index {
                 return false;
             }

@@ -1,20 +1,23 @@
-// Calls that are refused. A record is the function, the argument that leaves no rule, the number, 6 for its shape or 16 for its number
-// type, and the types of the operands.
+// Calls that are refused. A record is the function, the number and the place of the refusal, then the types of the operands as a part, and
+// behind it their marks.
 
 use crate::answers::is_refusal;
+use crate::parts::first;
+use crate::parts::rest;
 use crate::records::wide;
+use calls::CallAnswer;
 use calls::call_of;
-use lists::ChosenAnswer;
 
-// Whether the call is refused by that number at that argument, with the concrete-only switch off.
+// Whether the call is refused by that number at that place, with the concrete-only switch off.
 pub fn agrees(record: &[u8]) -> bool {
     if record.len() < 3 {
         return false;
     }
-    let place = 1 + wide(record[1]);
-    let number = record[2];
-    match call_of(record[0], &record[3..], false) {
-        ChosenAnswer::Rule(_) => false,
-        ChosenAnswer::Refused(why) => is_refusal(why, number, place),
+    let number = record[1];
+    let place = wide(record[2]);
+    let operands = &record[3..];
+    match call_of(record[0], first(operands), rest(operands), false) {
+        CallAnswer::Called(_, _) => false,
+        CallAnswer::Refused(why) => is_refusal(why, number, place),
     }
 }

@@ -1,5 +1,5 @@
 // Expressions and their worksheets. A record is the concrete-only switch, the two bytes of the buffer's size, the number of the answer,
-// the two bytes of its place, its type, then the expression as a part, and behind it the worksheet.
+// the two bytes of its place, its type, its mark, then the expression as a part, and behind it the worksheet.
 
 ghost use mathlib.Core.Path.{_≡_};
 ghost use Prim.Native.Nat.{_≤_};
@@ -31,7 +31,7 @@ fn unwritten() -> [u8; 512]
 // Whether the answer is the stored one, with so many bytes of the space as the buffer. Afterwards the worksheet must stand in front of
 // the space, and nothing be written behind it.
 fn agrees_in(record: &[u8], space: &mut [u8]) -> bool {
-    if record.len() < 9 {
+    if record.len() < 10 {
         return false;
     }
     if 1 < record[0] {
@@ -42,13 +42,20 @@ fn agrees_in(record: &[u8], space: &mut [u8]) -> bool {
     if space.len() < size {
         return false;
     }
-    let parts = &record[7..];
+    let parts = &record[8..];
     let sheet = rest(parts);
     let answer = typed(first(parts), switch, space, size);
     if !holds(space, sheet) {
         return false;
     }
-    answer_agrees(answer, record[3], word(record, 4), record[6], sheet)
+    answer_agrees(
+        answer,
+        record[3],
+        word(record, 4),
+        record[6],
+        record[7],
+        sheet,
+    )
 }
 
 // The answer to an expression, with the first bytes of the space as the buffer.
@@ -58,11 +65,21 @@ fn typed(bytes: &[u8], switch: bool, space: &mut [u8], size: usize) -> TypeAnswe
     type_expression(bytes, switch, &mut space[..size])
 }
 
-// Whether the answer has this number, place and type, and the sheet's length. An accepted worksheet must run; a refusal has none.
-fn answer_agrees(answer: TypeAnswer, number: u8, place: usize, t: u8, sheet: &[u8]) -> bool {
+// Whether the answer has this number, place, type and mark, and the sheet's length. An accepted worksheet must run; a refusal has none.
+fn answer_agrees(
+    answer: TypeAnswer,
+    number: u8,
+    place: usize,
+    t: u8,
+    mark: u8,
+    sheet: &[u8],
+) -> bool {
     match answer {
         TypeAnswer::Refused(why) => {
             if t != NONE {
+                return false;
+            }
+            if mark != NONE {
                 return false;
             }
             if sheet.len() != 0 {
@@ -70,20 +87,23 @@ fn answer_agrees(answer: TypeAnswer, number: u8, place: usize, t: u8, sheet: &[u
             }
             is_refusal(why, number, place)
         }
-        TypeAnswer::Typed { code, len } => {
+        TypeAnswer::Typed { result, len } => {
             if number != 0 {
                 return false;
             }
             if place != 0 {
                 return false;
             }
-            if code != t {
+            if result.code != t {
+                return false;
+            }
+            if result.mark() != mark {
                 return false;
             }
             if len != sheet.len() {
                 return false;
             }
-            runs(sheet, t)
+            runs(sheet, t, mark)
         }
     }
 }
@@ -104,10 +124,14 @@ pub fn holds(bytes: &[u8], sheet: &[u8]) -> bool {
     true
 }
 
-// Whether the strict machine runs the sheet to its end, and leaves one operand, of this type.
-fn runs(sheet: &[u8], code: u8) -> bool {
+// Whether the strict machine runs the sheet to its end, and leaves one operand, of this type and mark.
+fn runs(sheet: &[u8], t: u8, stored: u8) -> bool {
     match run_worksheet(sheet) {
         Run::Stopped(_) => false,
-        Run::Ended { operands, top } => operands == 1 && top == code,
+        Run::Ended {
+            operands,
+            top,
+            mark,
+        } => operands == 1 && top == t && mark == stored,
     }
 }

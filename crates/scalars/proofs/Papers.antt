@@ -10,7 +10,7 @@ use Rattle.scalars.specs.Mask.{choose}
 use Rattle.scalars.specs.Refusal.{numbered}
 use Rattle.scalars.specs.Paper.{Paper, accepted, refusal, unused, values, refused, beside, verdictPaper, testPaper, countPaper, scalarPaper, walkPaper, membersPaper}
 use Rattle.scalars.specs.declared.refusal.Refusal.{Refusal}
-use Rattle.scalars.specs.declared.refusal.Refusal.the-variants.{EmptySet, SeveralConstructors, TooMany, NoSuchArgument, WrongCount, WrongShape, Unknown, IllFormed, TooLarge, NoRoom, NothingToCombine, NoConsensus, NoConclusion, UnknownRun, Misplaced, WrongNumber}
+use Rattle.scalars.specs.declared.refusal.Refusal.the-variants.{EmptySet, SeveralConstructors, TooMany, NoSuchArgument, WrongCount, WrongShape, Unknown, IllFormed, TooLarge, NoRoom, NothingToCombine, NoConsensus, NoConclusion, UnknownRun, Misplaced, WrongNumber, MeasuredAbstract}
 use Rattle.scalars.specs.declared.answer.Verdict.{Verdict}
 use Rattle.scalars.specs.declared.answer.Verdict.the-variants as verdict
 use Rattle.scalars.specs.declared.answer.Test.{Test}
@@ -43,7 +43,8 @@ refusalOf n p =
     (choose (eqb n 13) NoConclusion
     (choose (eqb n 14) (UnknownRun p)
     (choose (eqb n 15) (Misplaced p)
-    (WrongNumber p)))))))))))))))
+    (choose (eqb n 16) (WrongNumber p)
+    (MeasuredAbstract p))))))))))))))))
 
 refused-back : (why : Refusal) → refusalOf (numbered why .0) (numbered why .1) ≡ why
 unfolding refusalOf
@@ -63,6 +64,7 @@ refused-back NoConclusion = refl
 refused-back (UnknownRun p) = refl
 refused-back (Misplaced p) = refl
 refused-back (WrongNumber p) = refl
+refused-back (MeasuredAbstract p) = refl
 
 pub refusal-one : (a b : Refusal) → numbered a .0 ≡ numbered b .0 → numbered a .1 ≡ numbered b .1 → a ≡ b
 refusal-one a b n p = sym (refused-back a) ∙ ap (λ (k : ℕ). refusalOf k (numbered a .1)) n ∙ ap (refusalOf (numbered b .0)) p ∙ refused-back b

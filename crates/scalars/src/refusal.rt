@@ -39,10 +39,12 @@ pub enum Refusal {
     Misplaced(usize),
     // 16: in a call, rules are left with this argument's shape, and none with a number type that its own converts to.
     WrongNumber(usize),
+    // 17: a measured operand of an abstract type.
+    MeasuredAbstract(usize),
 }
 
 impl Refusal {
-    // The refusal's number, 1 to 16.
+    // The refusal's number, 1 to 17.
     pub fn number(self) -> u8
         ensures { λ r. ⌜ r ≡ numbered self .0 ⌝ }
     {
@@ -63,6 +65,7 @@ impl Refusal {
             Refusal::UnknownRun(_) => 14,
             Refusal::Misplaced(_) => 15,
             Refusal::WrongNumber(_) => 16,
+            Refusal::MeasuredAbstract(_) => 17,
         }
     }
 
@@ -87,6 +90,7 @@ impl Refusal {
             Refusal::UnknownRun(at) => at,
             Refusal::Misplaced(at) => at,
             Refusal::WrongNumber(at) => at,
+            Refusal::MeasuredAbstract(at) => at,
         }
     }
 }

@@ -1,6 +1,7 @@
--- The definition of reading a text, by the tokens and names that stand there: one law for each way through `read_node`, `read_brackets` and
--- `read_arguments`. Each says what is answered and written, so that the functions' proofs only cite it. Assumes nothing.
-use mathlib.Core.Path.{_≡_, refl, sym, ap, ap₂, _∙_, subst}
+-- The definition of reading a text, by the tokens and names that stand there: one law for each way through `read_node`, `read_measured`,
+-- `read_brackets` and `read_arguments`. Each says what is answered and written, so that the functions' proofs only cite it. Assumes nothing.
+use mathlib.Core.Path.{_≡_, refl, sym, ap, ap₂, _∙_, subst, subst⁻¹}
+use mathlib.Core.Bool.{Bool, true, false}
 use mathlib.Core.List.{List, [], _∷_, append-nil}
 use Prim.Native.Nat.{ℕ, zero, suc, _+_, _*_, _≤_, _<_}
 use native.Mathlib.Omega.{arith}
@@ -9,13 +10,15 @@ use types.Run.{OneOf, miss}
 use denote.Enum.Declared.{tagOf}
 use borrow.Author.Tests.{lt-ltb, le-ltb}
 use lib.Dec.{ltb}
-use lib.ListN.{set, length-append}
+use Rattle.scalars.specs.Mask.{choose}
+use lib.ListN.{length, set, length-append}
 use lib.Seq.{sets, set-comm}
 use Rattle.scalars.specs.Refusal.{numbered}
 use Rattle.scalars.specs.declared.refusal.Refusal.{Refusal}
 use Rattle.scalars.specs.declared.refusal.Refusal.the-variants.{TooLarge, UnknownRun, Misplaced}
-use Rattle.names.specs.Names.{Named, aType, aFunction, unknown}
-use Rattle.expressions.specs.Tree.{Tree, Trees, leaf, call, none, more, count, bytesOf, bytesOfAll, leafTag, callTag, mostNodes, deepest}
+use Rattle.types.specs.declared.operand.Operand.{Operand}
+use Rattle.names.specs.Names.{Named, aType, aFunction, unknown, measuredName, same}
+use Rattle.expressions.specs.Tree.{Tree, Trees, leaf, call, none, more, count, bytesOf, bytesOfAll, leafTag, callTag, measuredTag, mostNodes, deepest}
 use Rattle.expressions.specs.Reading.{Reading, done, refused, andThen, demand}
 use Rattle.expressions.specs.private.Step.{levelsLeft}
 use Rattle.text.specs.declared.token.Token.{Token}
@@ -24,12 +27,12 @@ use Rattle.text.specs.declared.token.Token.the-variants.{Open, Close, Co
 use Rattle.text.specs.declared.reader.Step.{Step}
 use Rattle.text.specs.declared.reader.Step.the-variants.{Past, Fault}
 use Rattle.text.specs.Tokens.{next, place}
-use Rattle.text.specs.Reading.{misplaced, onRun, onOpen, onClose, onMore, argsAt, bracketsAt, wordAt, runAt, nodeAt}
-use Rattle.text.specs.private.ReadStep.{Went, NodeRead, ArgsRead}
+use Rattle.text.specs.Reading.{misplaced, onRun, onOpen, onClose, onMore, argsAt, bracketsAt, wordAt, runAt, typeAt, measuredAt, runNode, nodeAt}
+use Rattle.text.specs.private.ReadStep.{LeafRoom, leafPut, leafStep, Went, NodeRead, ArgsRead}
 use Rattle.text.proofs.Stores.{sets-append}
 use Rattle.text.proofs.Tokens.{placed}
 
--- ---- the bytes of a leaf, and those of a call, of which the first three are written after the others
+-- ---- the bytes of a call, of which the first three are written after the others
 
 set-before : (d : List ℕ) (i m b : ℕ) (xs : List ℕ) → i < m → set (sets d m xs) i b ≡ sets (set d i b) m xs
 set-before d i m b [] h = refl
@@ -47,9 +50,6 @@ call-written d m f k bs =
     ∙ set-before (set (set d m callTag) (m + 1) f) (m + 2) (m + 3) k bs (omega arith)
     ∙ ap (λ i. sets (set (set (set d m callTag) i f) (m + 2) k) (m + 3) bs) (add-one m)
     ∙ ap₂ (λ i j. sets (set (set (set d m callTag) (suc m) f) i k) j bs) two three
-
-leaf-written : (d : List ℕ) (m t : ℕ) → set (set d m leafTag) (m + 1) t ≡ sets d m (leafTag ∷ t ∷ [])
-leaf-written d m t = ap (λ i. set (set d m leafTag) i t) (add-one m)
 
 -- ---- a token that is none of those asked for is misplaced; the tags number the variants of `Token` in their order, from 0
 
@@ -119,11 +119,45 @@ module _ (s : List ℕ) (at n m : ℕ) (d d′ : List ℕ) where
   unfolding ArgsRead
   fault-args x r read why eq = subst (ArgsRead s at n m d d′ x) eq read
 
+-- what is read from a later offset on, where the definition hands on to there
+went-later : {A : Type 0} {bytes : A → List ℕ} {many : A → ℕ} {s : List ℕ} {at later n m : ℕ} {d d′ : List ℕ} {x y : Reading A}
+    {behind nodes made k : ℕ} → x ≡ y → at ≤ later → Went bytes many s later n m d d′ y behind nodes made k
+    → Went bytes many s at n m d d′ x behind nodes made k
+went-later eq h w = record {
+  tree = w .tree;
+  is = eq ∙ w .is;
+  number-is = w .number-is;
+  made-is = w .made-is;
+  written = w .written;
+  moves = omega (arith, w .moves);
+  within = w .within;
+  grows = w .grows;
+  few = w .few;
+  room = w .room;
+}
+
+-- a leaf is read, and its bytes are written
+leaf-read : (s : List ℕ) (at n m e : ℕ) (d d′ : List ℕ) (o : Operand) (x : Reading Tree) (r : Step) → x ≡ done (leaf o) e (n + 1)
+    → at < e → e ≤ length s → LeafRoom n m → r ≡ leafStep e n m → d′ ≡ sets d m (bytesOf (leaf o)) → NodeRead s at n m d d′ x r
+unfolding NodeRead bytesOf
+leaf-read s at n m e d d′ o x r is moves within h eq w = subst⁻¹ (NodeRead s at n m d d′ x) eq (record {
+  tree = leaf o;
+  is = is;
+  number-is = refl;
+  made-is = refl;
+  written = w;
+  moves = moves;
+  within = within;
+  grows = omega arith;
+  few = omega (arith, h .0);
+  room = omega (arith, h .1);
+})
+
 module _ (look : List ℕ → Named) (s : List ℕ) where
   -- what the definition makes of a run, of the token behind an opening bracket and of the token behind an argument
 
   abbrev running : ℕ → ℕ → ℕ → ℕ → Reading Tree
-  running levels n p e = demand (ltb n mostNodes) 9 p (wordAt look s (nodeAt look s levels) p e n (look (runAt look s p e)))
+  running levels n p e = demand (ltb n mostNodes) 9 p (runNode look s (nodeAt look s levels) p e n)
 
   abbrev bracketed : (ℕ → ℕ → Reading Tree) → ℕ → ℕ → Token → Reading Trees
   bracketed node n inside t = onClose t (λ behind. done none behind n) (argsAt look s node (suc mostNodes) inside n)
@@ -131,6 +165,39 @@ module _ (look : List ℕ → Named) (s : List ℕ) where
   abbrev following : (ℕ → ℕ → Reading Tree) → ℕ → Tree → ℕ → Token → Reading Trees
   following node left e n t =
       onMore t (λ behind. done (more e none) behind n) (λ behind. andThen (argsAt look s node left behind n) (λ es. done (more e es)))
+
+  -- ---- a measured leaf, from behind `measured` on
+
+  module _ (at n m : ℕ) (d d′ : List ℕ) where
+    pub no-type : (t : Token) (p : ℕ) → t ≡ next s at → NoRun t → p ≡ place t
+        → NodeRead s at n m d d′ (measuredAt look s at n) (Fault (Misplaced p))
+    unfolding measuredAt NodeRead
+    no-type t p e h q =
+        let k : ℕ → ℕ → Reading Tree = λ p e. typeAt look s p e n (look (runAt look s p e)) in
+        sym (ap (λ t. onRun t k) e) ∙ run-misplaced t h k ∙ ap (refused 15) (sym q)
+
+    module _ (p e : ℕ) (run : Run p e ≡ next s at) where
+      behind-measured : (w : Named) → look (runAt look s p e) ≡ w → measuredAt look s at n ≡ typeAt look s p e n w
+      unfolding measuredAt
+      behind-measured w is =
+          sym (ap (λ t. onRun t (λ p e. typeAt look s p e n (look (runAt look s p e)))) run) ∙ ap (typeAt look s p e n) is
+
+      pub function-type : (f : ℕ) → look (runAt look s p e) ≡ aFunction f
+          → NodeRead s at n m d d′ (measuredAt look s at n) (Fault (Misplaced p))
+      unfolding typeAt NodeRead
+      function-type f is = behind-measured (aFunction f) is
+
+      pub unknown-type : look (runAt look s p e) ≡ unknown → NodeRead s at n m d d′ (measuredAt look s at n) (Fault (Misplaced p))
+      unfolding typeAt NodeRead
+      unknown-type is = behind-measured unknown is
+
+      pub measured-type : (t : ℕ) → look (runAt look s p e) ≡ aType t → LeafRoom n m → (r : Step) → r ≡ leafStep e n m
+          → d′ ≡ leafPut d m measuredTag t → NodeRead s at n m d d′ (measuredAt look s at n) r
+      unfolding typeAt bytesOf
+      measured-type t is h r eq w =
+          let q = placed s at run in
+          leaf-read s at n m e d d′ (record { code = t; measured = true }) (measuredAt look s at n) r (behind-measured (aType t) is)
+          (omega arith) (q .2) h eq w
 
   -- ---- a node
 
@@ -155,15 +222,14 @@ module _ (look : List ℕ → Named) (s : List ℕ) where
       many zero h = no-level
       many (suc levels) h = levels-left levels ∙ simp (le-ltb n mostNodes h)
 
-      allowed : (depth : ℕ) → n < mostNodes → depth ≤ deepest → (w : Named) → look (runAt look s p e) ≡ w
-          → nodeAt look s (levelsLeft depth) at n ≡ wordAt look s (nodeAt look s (levelsLeft (depth + 1))) p e n w
-      allowed depth few low w is =
+      allowed : (depth : ℕ) → n < mostNodes → depth ≤ deepest
+          → nodeAt look s (levelsLeft depth) at n ≡ runNode look s (nodeAt look s (levelsLeft (depth + 1))) p e n
+      allowed depth few low =
           let l : levelsLeft depth ≡ suc (levelsLeft (depth + 1)) = omega arith in
           let k : ℕ → ℕ → Reading Tree = nodeAt look s (levelsLeft (depth + 1)) in
           ap (λ l. nodeAt look s l at n) l
           ∙ levels-left (levelsLeft (depth + 1))
-          ∙ ap (λ b. demand b 9 p (wordAt look s k p e n (look (runAt look s p e)))) (lt-ltb n mostNodes few)
-          ∙ ap (wordAt look s k p e n) is
+          ∙ ap (λ b. demand b 9 p (runNode look s k p e n)) (lt-ltb n mostNodes few)
 
   module _ (at n m depth : ℕ) (d d′ : List ℕ) where
     pub no-run : (t : Token) (p : ℕ) → t ≡ next s at → NoRun t → p ≡ place t
@@ -181,67 +247,80 @@ module _ (look : List ℕ → Named) (s : List ℕ) where
       too-deep h = let z : levelsLeft depth ≡ 0 = omega arith in ap (λ l. nodeAt look s l at n) z ∙ no-level at n p e run
 
       module _ (few : n < mostNodes) (low : depth ≤ deepest) where
-        pub unknown-node : look (runAt look s p e) ≡ unknown
-            → NodeRead s at n m d d′ (nodeAt look s (levelsLeft depth) at n) (Fault (UnknownRun p))
-        unfolding wordAt NodeRead
-        unknown-node is = allowed at n p e run depth few low unknown is
+        -- the first run is `measured`
+        pub measured-node : {found : Bool} → found ≡ same (runAt look s p e) measuredName → found ≡ true → (r : Step)
+            → NodeRead s e n m d d′ (measuredAt look s e n) r → NodeRead s at n m d d′ (nodeAt look s (levelsLeft depth) at n) r
+        unfolding NodeRead runNode
+        measured-node test is = go
+          where
+            begun : nodeAt look s (levelsLeft depth) at n ≡ measuredAt look s e n
+            begun = allowed at n p e run depth few low
+                ∙ ap (λ b. choose b (measuredAt look s e n)
+                (wordAt look s (nodeAt look s (levelsLeft (depth + 1))) p e n (look (runAt look s p e)))) (sym test ∙ is)
 
-        pub leaf-node : (t : ℕ) → look (runAt look s p e) ≡ aType t → m ≤ 3 * n
-            → (b : List ℕ) → b ≡ set d m leafTag → d′ ≡ set b (m + 1) t
-            → NodeRead s at n m d d′ (nodeAt look s (levelsLeft depth) at n) (Past e (n + 1) (m + 2) 1)
-        unfolding wordAt bytesOf NodeRead
-        leaf-node t is room b v w =
-            let q = placed s at run in
-            record {
-              tree = leaf (record { type = t });
-              is = allowed at n p e run depth few low (aType t) is;
-              number-is = refl;
-              made-is = refl;
-              written = w ∙ ap (λ l. set l (m + 1) t) v ∙ leaf-written d m t;
-              moves = omega arith;
-              within = q .2;
-              grows = omega arith;
-              few = omega arith;
-              room = omega arith;
-            }
+            go : (r : Step) → NodeRead s e n m d d′ (measuredAt look s e n) r → NodeRead s at n m d d′ (nodeAt look s (levelsLeft depth) at n) r
+            go (Fault why) x = begun ∙ x
+            go (Past behind nodes made number) x = let q = placed s at run in went-later begun (omega arith) x
 
-        module _ (f : ℕ) (is : look (runAt look s p e) ≡ aFunction f) (b : List ℕ) where
-          abbrev inner : Reading Trees
-          inner = bracketsAt look s (nodeAt look s (levelsLeft (depth + 1))) e (n + 1)
+        -- it is not
+        module _ {found : Bool} (test : found ≡ same (runAt look s p e) measuredName) (other : found ≡ false) where
+          worded : (w : Named) → look (runAt look s p e) ≡ w
+              → nodeAt look s (levelsLeft depth) at n ≡ wordAt look s (nodeAt look s (levelsLeft (depth + 1))) p e n w
+          unfolding runNode
+          worded w is =
+              allowed at n p e run depth few low
+              ∙ ap₂ (λ b w. choose b (measuredAt look s e n) (wordAt look s (nodeAt look s (levelsLeft (depth + 1))) p e n w)) (sym test ∙ other) is
 
-          called : nodeAt look s (levelsLeft depth) at n ≡ andThen inner (λ es. done (call f es))
-          unfolding wordAt
-          called = allowed at n p e run depth few low (aFunction f) is
+          pub unknown-node : look (runAt look s p e) ≡ unknown
+              → NodeRead s at n m d d′ (nodeAt look s (levelsLeft depth) at n) (Fault (UnknownRun p))
+          unfolding wordAt NodeRead
+          unknown-node is = worded unknown is
 
-          pub call-fault : (r : Step) (why : Refusal) → ArgsRead s e (n + 1) (m + 3) d b inner r → r ≡ Fault why
-              → NodeRead s at n m d d′ (nodeAt look s (levelsLeft depth) at n) (Fault why)
-          unfolding NodeRead ArgsRead
-          call-fault r why read eq =
-              called ∙ ap (λ x. andThen x (λ es. done (call f es))) (fault-args s e (n + 1) (m + 3) d b inner r read why eq)
-
-          pub call-node : (r : Step) (behind nodes made k : ℕ) → ArgsRead s e (n + 1) (m + 3) d b inner r → r ≡ Past behind nodes made k
-              → (b₁ b₂ : List ℕ) → b₁ ≡ set b m callTag → b₂ ≡ set b₁ (m + 1) f → d′ ≡ set b₂ (m + 2) k
-              → NodeRead s at n m d d′ (nodeAt look s (levelsLeft depth) at n) (Past behind nodes made 1)
-          unfolding bytesOf NodeRead ArgsRead
-          call-node r behind nodes made k read eq b₁ b₂ u v w =
-              let x = went-args s e (n + 1) (m + 3) d b inner r read behind nodes made k eq in
+          pub leaf-node : (t : ℕ) → look (runAt look s p e) ≡ aType t → m ≤ 3 * n → (r : Step) → r ≡ leafStep e n m
+              → d′ ≡ leafPut d m leafTag t → NodeRead s at n m d d′ (nodeAt look s (levelsLeft depth) at n) r
+          unfolding wordAt bytesOf
+          leaf-node t is room r eq w =
               let q = placed s at run in
-              record {
-                tree = call f (x .tree);
-                is = called ∙ ap (λ x. andThen x (λ es. done (call f es))) (x .is);
-                number-is = refl;
-                made-is = omega (arith, x .made-is);
-                written =
-                    w
-                    ∙ ap (λ l. set l (m + 2) k) (v ∙ ap (λ l. set l (m + 1) f) (u ∙ ap (λ l. set l m callTag) (x .written)))
-                    ∙ call-written d m f k (bytesOfAll (x .tree))
-                    ∙ ap (λ k. sets d m (callTag ∷ f ∷ k ∷ bytesOfAll (x .tree))) (x .number-is);
-                moves = omega (arith, x .moves);
-                within = x .within;
-                grows = omega (arith, x .grows);
-                few = x .few;
-                room = x .room;
-              }
+              leaf-read s at n m e d d′ (record { code = t; measured = false }) (nodeAt look s (levelsLeft depth) at n) r
+              (worded (aType t) is) (omega arith) (q .2) (few, room) eq w
+
+          module _ (f : ℕ) (is : look (runAt look s p e) ≡ aFunction f) (b : List ℕ) where
+            abbrev inner : Reading Trees
+            inner = bracketsAt look s (nodeAt look s (levelsLeft (depth + 1))) e (n + 1)
+
+            called : nodeAt look s (levelsLeft depth) at n ≡ andThen inner (λ es. done (call f es))
+            unfolding wordAt
+            called = worded (aFunction f) is
+
+            pub call-fault : (r : Step) (why : Refusal) → ArgsRead s e (n + 1) (m + 3) d b inner r → r ≡ Fault why
+                → NodeRead s at n m d d′ (nodeAt look s (levelsLeft depth) at n) (Fault why)
+            unfolding NodeRead ArgsRead
+            call-fault r why read eq =
+                called ∙ ap (λ x. andThen x (λ es. done (call f es))) (fault-args s e (n + 1) (m + 3) d b inner r read why eq)
+
+            pub call-node : (r : Step) (behind nodes made k : ℕ) → ArgsRead s e (n + 1) (m + 3) d b inner r → r ≡ Past behind nodes made k
+                → (b₁ b₂ : List ℕ) → b₁ ≡ set b m callTag → b₂ ≡ set b₁ (m + 1) f → d′ ≡ set b₂ (m + 2) k
+                → NodeRead s at n m d d′ (nodeAt look s (levelsLeft depth) at n) (Past behind nodes made 1)
+            unfolding bytesOf NodeRead ArgsRead
+            call-node r behind nodes made k read eq b₁ b₂ u v w =
+                let x = went-args s e (n + 1) (m + 3) d b inner r read behind nodes made k eq in
+                let q = placed s at run in
+                record {
+                  tree = call f (x .tree);
+                  is = called ∙ ap (λ x. andThen x (λ es. done (call f es))) (x .is);
+                  number-is = refl;
+                  made-is = omega (arith, x .made-is);
+                  written =
+                      w
+                      ∙ ap (λ l. set l (m + 2) k) (v ∙ ap (λ l. set l (m + 1) f) (u ∙ ap (λ l. set l m callTag) (x .written)))
+                      ∙ call-written d m f k (bytesOfAll (x .tree))
+                      ∙ ap (λ k. sets d m (callTag ∷ f ∷ k ∷ bytesOfAll (x .tree))) (x .number-is);
+                  moves = omega (arith, x .moves);
+                  within = x .within;
+                  grows = omega (arith, x .grows);
+                  few = x .few;
+                  room = x .room;
+                }
 
   -- ---- arguments, each read by `node`
 
@@ -285,26 +364,13 @@ module _ (look : List ℕ → Named) (s : List ℕ) where
       unfolding ArgsRead
       full-brackets r h read = go r (read (suc mostNodes) (omega arith))
         where
-          same : bracketsAt look s node at n ≡ argsAt look s node (suc mostNodes) (o + 1) n
-          same = opened ∙ no-close t h (λ behind. done none behind n) (argsAt look s node (suc mostNodes) (o + 1) n)
+          handed : bracketsAt look s node at n ≡ argsAt look s node (suc mostNodes) (o + 1) n
+          handed = opened ∙ no-close t h (λ behind. done none behind n) (argsAt look s node (suc mostNodes) (o + 1) n)
 
           go : (r : Step) → ArgsRead s (o + 1) n m d d′ (argsAt look s node (suc mostNodes) (o + 1) n) r
               → ArgsRead s at n m d d′ (bracketsAt look s node at n) r
-          go (Fault why) x = same ∙ x
-          go (Past behind nodes made number) x =
-              let a = placed s at bracket in
-              record {
-                tree = x .tree;
-                is = same ∙ x .is;
-                number-is = x .number-is;
-                made-is = x .made-is;
-                written = x .written;
-                moves = omega (arith, x .moves);
-                within = x .within;
-                grows = x .grows;
-                few = x .few;
-                room = x .room;
-              }
+          go (Fault why) x = handed ∙ x
+          go (Past behind nodes made number) x = let a = placed s at bracket in went-later handed (omega arith) x
 
   module _ (node : ℕ → ℕ → Reading Tree) (at n m : ℕ) (few : n ≤ mostNodes) (d a : List ℕ) (r₁ : Step)
       (one : NodeRead s at n m d a (node at n) r₁) where

@@ -1,17 +1,21 @@
 -- The writer's turns: where a tree's bytes stand, the text of the tree is written, argument by argument. Assumes nothing.
 use mathlib.Core.Path.{_≡_, refl, sym, ap, ap₂, subst, _∙_}
+use mathlib.Core.Bool.{Bool, true, false}
 use mathlib.Core.List.{List, _∷_, _++_, append-assoc}
 use Prim.Native.Nat.{ℕ, suc, _+_, _-_, _≤_, _<_}
 use native.Mathlib.Numerals.{add-one}
 use native.Mathlib.Omega.{arith}
+use lib.Dec.{eqb}
 use lib.ListN.{length, getD, drop, set, length-append}
 use lib.Seq.{sets}
+use Rattle.types.specs.declared.operand.Operand.{Operand}
+use Rattle.names.specs.Names.{measuredName}
 use Rattle.names.specs.Spelling.{spellingIn}
-use Rattle.expressions.specs.Tree.{Tree, Trees, leaf, call, none, more, count, leafTag, bytesOf, bytesOfAll}
+use Rattle.expressions.specs.Tree.{Tree, Trees, leaf, call, none, more, count, tagOf, callTag, measuredTag, bytesOf, bytesOfAll}
 use Rattle.expressions.proofs.Bytes.{leaf-there, call-there, after, bytes-least}
 use Rattle.text.specs.declared.writer.Turn.{Turn}
 use Rattle.text.specs.Tokens.{spaceByte, openByte, closeByte, commaByte}
-use Rattle.text.specs.Writing.{textWith, insideWith, othersWith}
+use Rattle.text.specs.Writing.{leafText, textWith, insideWith, othersWith}
 use Rattle.text.specs.private.WriteStep.{typeIn, functionIn, textRoom, NodeThere, RestThere, Turned, NodeWritten, RestWritten}
 use Rattle.text.proofs.Stores.{sets-append}
 
@@ -49,6 +53,46 @@ store-behind strip x t m named a e =
     ap (λ j. sets (set (sets strip m x) named a) j t) (add-one named)
     ∙ ap (λ j. sets (sets strip m x) j (a ∷ t)) e ∙ sym (sets-append strip m x (a ∷ t))
 
+-- ---- a leaf's text, by whether it is measured
+
+module _ (name : List ℕ) (at : ℕ) {measured : Bool} where
+  module _ (is : measured ≡ true) (x : List ℕ) (w : x ≡ measuredName) where
+    measured-text : leafText measured name ≡ x ++ spaceByte ∷ name
+    measured-text = ap (λ b. leafText b name) is ∙ ap (λ y. y ++ spaceByte ∷ name) (sym w)
+
+    pub word-room : at + length (leafText measured name) ≤ textRoom → at + length x + 1 + length name ≤ textRoom
+    word-room h = omega (arith, ap length measured-text, length-append x (spaceByte ∷ name))
+
+    pub word-written : (strip s₁ s₂ : List ℕ) (full r : ℕ) → full ≡ at + length x → s₁ ≡ sets strip at x → r ≡ full + 1 + length name
+        → s₂ ≡ sets (set s₁ full spaceByte) (full + 1) name
+        → (r ≡ at + length (leafText measured name)) × (s₂ ≡ sets strip at (leafText measured name))
+    word-written strip s₁ s₂ full r f u g v = (
+      omega (arith, ap length measured-text, length-append x (spaceByte ∷ name)),
+      v ∙ ap (λ l. sets (set l full spaceByte) (full + 1) name) u ∙ store-behind strip x name at full spaceByte f
+          ∙ ap (sets strip at) (sym measured-text),
+    )
+
+  module _ (is : measured ≡ false) where
+    name-text : leafText measured name ≡ name
+    name-text = ap (λ b. leafText b name) is
+
+    pub name-alone : at + length (leafText measured name) ≤ textRoom → at + length name ≤ textRoom
+    name-alone h = omega (arith, ap length name-text)
+
+    pub name-written : (strip s₁ : List ℕ) (r : ℕ) → r ≡ at + length name → s₁ ≡ sets strip at name
+        → (r ≡ at + length (leafText measured name)) × (s₁ ≡ sets strip at (leafText measured name))
+    name-written strip s₁ r g v = (omega (arith, ap length name-text), v ∙ ap (sets strip at) (sym name-text))
+
+-- ---- the tag of a leaf
+
+tag-measured : (measured : Bool) → eqb (tagOf measured) measuredTag ≡ measured
+tag-measured false = refl
+tag-measured true = refl
+
+tag-leaf : {A : Type 0} (measured : Bool) → tagOf measured ≡ callTag → A
+tag-leaf false e = absurd (omega arith)
+tag-leaf true e = absurd (omega arith)
+
 -- ---- a node
 
 module _ (b names index : List ℕ) (at m : ℕ) where
@@ -59,34 +103,46 @@ module _ (b names index : List ℕ) (at m : ℕ) where
       go (leaf l) t = leaf-there b at l (n .tail) t .here
       go (call f es) t = let here = call-there b at f es (n .tail) t .here in omega arith
 
-  module _ (tag : getD b at 0 ≡ leafTag) where
+  module _ (tag : getD b at 0 ≡ callTag → ⊥) (x : List ℕ) (e : x ≡ spellingIn names index (getD b (at + 1) 0)) where
     no-call : {A : Type 0} (f : ℕ) (es : Trees) (tail : List ℕ) → drop at b ≡ bytesOf (call f es) ++ tail → A
-    no-call f es tail t = absurd (omega (arith, call-there b at f es tail t .tag))
+    no-call f es tail t = absurd (tag (call-there b at f es tail t .tag))
 
-    pub leaf-room : (x : List ℕ) → x ≡ spellingIn names index (getD b (at + 1) 0) → NodeThere b names index at m → m + length x ≤ textRoom
+    -- the leaf's text, by the tag and the name that were found
+    abbrev found : List ℕ
+    found = leafText (eqb (getD b at 0) measuredTag) x
+
+    spelt-so : (l : Operand) (tail : List ℕ) → drop at b ≡ bytesOf (leaf l) ++ tail
+        → found ≡ textWith (typeIn names index) (functionIn names index) (leaf l)
     unfolding textWith
-    leaf-room x e n = go (n .tree) (n .text) (n .room)
+    spelt-so l tail t =
+        let here = leaf-there b at l tail t in
+        ap₂ leafText (ap (λ k. eqb k measuredTag) (here .tag) ∙ tag-measured (l .measured)) (e ∙ ap (spellingIn names index) (here .type-is))
+
+    pub leaf-room : NodeThere b names index at m → m + length found ≤ textRoom
+    leaf-room n = go (n .tree) (n .text) (n .room)
       where
         go : (e : Tree) → drop at b ≡ bytesOf e ++ n .tail → m + length (textWith (typeIn names index) (functionIn names index) e) ≤ textRoom
-            → m + length x ≤ textRoom
-        go (leaf l) t r =
-            subst (λ y. m + length y ≤ textRoom) (sym (e ∙ ap (spellingIn names index) (leaf-there b at l (n .tail) t .type-is))) r
+            → m + length found ≤ textRoom
+        go (leaf l) t r = subst (λ y. m + length y ≤ textRoom) (sym (spelt-so l (n .tail) t)) r
         go (call f es) t r = no-call f es (n .tail) t
 
-    pub leaf-written : (x strip strip′ : List ℕ) (full : ℕ) → x ≡ spellingIn names index (getD b (at + 1) 0) → full ≡ m + length x
-        → strip′ ≡ sets strip m x → NodeWritten b names index at m strip strip′ (record { at = at + 2; made = full })
-    unfolding NodeWritten textWith bytesOf
-    leaf-written x strip strip′ full e f w (leaf l) tail t =
-        let spelt = e ∙ ap (spellingIn names index) (leaf-there b at l tail t .type-is) in
+    pub leaf-written : (strip strip′ : List ℕ) (full : ℕ) → full ≡ m + length found → strip′ ≡ sets strip m found
+        → NodeWritten b names index at m strip strip′ (record { at = at + 2; made = full })
+    unfolding NodeWritten bytesOf
+    leaf-written strip strip′ full f w (leaf l) tail t =
+        let spelt = spelt-so l tail t in
         record { at-is = refl; made-is = f ∙ ap (λ y. m + length y) spelt; written = w ∙ ap (sets strip m) spelt }
-    leaf-written x strip strip′ full e f w (call g es) tail t = no-call g es tail t
+    leaf-written strip strip′ full f w (call g es) tail t = no-call g es tail t
 
-  module _ (tag : getD b at 0 ≡ leafTag → ⊥) where
+  module _ (tag : getD b at 0 ≡ callTag) where
+    no-leaf : {A : Type 0} (l : Operand) (tail : List ℕ) → drop at b ≡ bytesOf (leaf l) ++ tail → A
+    no-leaf l tail t = tag-leaf (l .measured) (sym (leaf-there b at l tail t .tag) ∙ tag)
+
     pub three-bytes : NodeThere b names index at m → at + 2 < length b
     three-bytes n = go (n .tree) (n .text)
       where
         go : (e : Tree) → drop at b ≡ bytesOf e ++ n .tail → at + 2 < length b
-        go (leaf l) t = absurd (tag (leaf-there b at l (n .tail) t .tag))
+        go (leaf l) t = no-leaf l (n .tail) t
         go (call f es) t = call-there b at f es (n .tail) t .here
 
     module _ (x : List ℕ) (e : x ≡ functionIn names index (getD b (at + 1) 0)) where
@@ -97,7 +153,7 @@ module _ (b names index : List ℕ) (at m : ℕ) where
         where
           go : (e : Tree) → drop at b ≡ bytesOf e ++ n .tail
               → m + length (textWith (typeIn names index) (functionIn names index) e) ≤ textRoom → m + length x + 2 ≤ textRoom
-          go (leaf l) t r = absurd (tag (leaf-there b at l (n .tail) t .tag))
+          go (leaf l) t r = no-leaf l (n .tail) t
           go (call f es) t r =
               let name = functionIn names index f in
               let inside = insideWith (typeIn names index) (functionIn names index) es in
@@ -112,7 +168,7 @@ module _ (b names index : List ℕ) (at m : ℕ) where
             go : (e : Tree) → drop at b ≡ bytesOf e ++ n .tail
                 → m + length (textWith (typeIn names index) (functionIn names index) e) ≤ textRoom
                 → ArgsThere b names index (at + 3) (getD b (at + 2) 0) (named + 1)
-            go (leaf l) t r = absurd (tag (leaf-there b at l (n .tail) t .tag))
+            go (leaf l) t r = no-leaf l (n .tail) t
             go (call g es) t r =
                 let name = functionIn names index g in
                 let inside = insideWith (typeIn names index) (functionIn names index) es in
@@ -129,7 +185,7 @@ module _ (b names index : List ℕ) (at m : ℕ) where
         pub call-written : (strip s₁ s₂ : List ℕ) (r : Turn) → s₁ ≡ set (sets strip m x) named openByte
             → ArgsWritten b names index (at + 3) (getD b (at + 2) 0) (named + 1) s₁ s₂ r → NodeWritten b names index at m strip s₂ r
         unfolding NodeWritten ArgsWritten textWith bytesOf
-        call-written strip s₁ s₂ r o rest (leaf l) tail t = absurd (tag (leaf-there b at l tail t .tag))
+        call-written strip s₁ s₂ r o rest (leaf l) tail t = no-leaf l tail t
         call-written strip s₁ s₂ r o rest (call g es) tail t =
             let name = functionIn names index g in
             let inside = insideWith (typeIn names index) (functionIn names index) es in

@@ -1,11 +1,13 @@
 -- Document 02, (i), reading a text: 'the first in the text of 9 as in 01, 14 an unknown run where a node may begin, 15 anything else misplaced
 -- or missing, at the token or the text's end, 9 before 14'. A node is read through its arguments and the arguments through their nodes.
+-- Document 02, (v): 'Text: `measured` and a type', and 'after `measured` anything but a type is 15 at that token, or at the text's end'.
 use Prim.Native.Nat.{ℕ, zero, suc, _+_, _-_}
+use mathlib.Core.Bool.{true, false}
 use mathlib.Core.List.{List}
 use lib.Dec.{ltb}
 use lib.ListN.{length, take, drop}
 use Rattle.scalars.specs.Mask.{choose}
-use Rattle.names.specs.Names.{Named, aType, aFunction, unknown, named}
+use Rattle.names.specs.Names.{Named, aType, aFunction, unknown, measuredName, same, named}
 use Rattle.expressions.specs.Tree.{Tree, Trees, leaf, call, none, more, mostNodes, deepest}
 use Rattle.expressions.specs.Reading.{Reading, done, refused, andThen, demand, Expression, read, refusedAs}
 use Rattle.text.specs.declared.token.Token.{Token}
@@ -66,7 +68,7 @@ module _ (look : List ℕ → Named) (s : List ℕ) where
 
   -- a node by what its first run names, which stands from p to e
   unfoldable pub wordAt : (ℕ → ℕ → Reading Tree) → ℕ → ℕ → ℕ → Named → Reading Tree
-  wordAt node p e nodes (aType t) = done (leaf (record { type = t })) e (nodes + 1)
+  wordAt node p e nodes (aType t) = done (leaf (record { code = t; measured = false })) e (nodes + 1)
   wordAt node p e nodes (aFunction f) = andThen (bracketsAt node e (nodes + 1)) (λ es. done (call f es))
   wordAt node p e nodes unknown = refused 14 p
 
@@ -74,12 +76,26 @@ module _ (look : List ℕ → Named) (s : List ℕ) where
   abbrev pub runAt : ℕ → ℕ → List ℕ
   runAt p e = take (e - p) (drop p s)
 
+  -- a measured leaf by what the run behind `measured` names, which stands from p to e: anything but a type is misplaced
+  unfoldable pub typeAt : ℕ → ℕ → ℕ → Named → Reading Tree
+  typeAt p e nodes (aType t) = done (leaf (record { code = t; measured = true })) e (nodes + 1)
+  typeAt p e nodes (aFunction f) = refused 15 p
+  typeAt p e nodes unknown = refused 15 p
+
+  -- a measured leaf, from behind `measured` on
+  unfoldable pub measuredAt : ℕ → ℕ → Reading Tree
+  measuredAt at nodes = onRun (next s at) (λ p e. typeAt p e nodes (look (runAt p e)))
+
+  -- a node by its first run, which stands from p to e
+  unfoldable pub runNode : (ℕ → ℕ → Reading Tree) → ℕ → ℕ → ℕ → Reading Tree
+  runNode node p e nodes = choose (same (runAt p e) measuredName) (measuredAt e nodes) (wordAt node p e nodes (look (runAt p e)))
+
   -- a node that may have so many levels, its own included, with `nodes` nodes before it: a run stands there (15), it is not the 65th and not
-  -- too deep (9), and the run is known (14)
+  -- too deep (9), and the run is `measured` or known (14)
   unfoldable pub nodeAt : ℕ → ℕ → ℕ → Reading Tree
   nodeAt zero at nodes = onRun (next s at) (λ p e. refused 9 p)
   nodeAt (suc levels) at nodes =
-      onRun (next s at) (λ p e. demand (ltb nodes mostNodes) 9 p (wordAt (nodeAt levels) p e nodes (look (runAt p e))))
+      onRun (next s at) (λ p e. demand (ltb nodes mostNodes) 9 p (runNode (nodeAt levels) p e nodes))
 
   -- behind the root no token is left
   abbrev pub atEnd : Tree → Token → Expression

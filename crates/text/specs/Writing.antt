@@ -1,15 +1,22 @@
--- Document 02, (i), writing a tree: 'the writer puts one after each comma only', and no other space.
+-- Document 02, (i), writing a tree: 'the writer puts one after each comma only', and, by (v), one between `measured` and its type, and no
+-- other space.
 use Prim.Native.Nat.{ℕ}
+use mathlib.Core.Bool.{Bool, true, false}
 use mathlib.Core.List.{List, [], _∷_, _++_}
-use Rattle.names.specs.Names.{typeName, functionName}
+use Rattle.names.specs.Names.{typeName, functionName, measuredName}
 use Rattle.expressions.specs.Tree.{Tree, Trees, leaf, call, none, more}
 use Rattle.text.specs.Tokens.{spaceByte, openByte, closeByte, commaByte}
+
+-- a leaf, measured or not, whose type is spelled so
+abbrev pub leafText : Bool → List ℕ → List ℕ
+leafText false name = name
+leafText true name = measuredName ++ spaceByte ∷ name
 
 -- with a way of spelling types and functions
 module _ (typeSpelt functionSpelt : ℕ → List ℕ) where
   unfoldable mutual
     pub textWith : Tree → List ℕ
-    textWith (leaf l) = typeSpelt (l .type)
+    textWith (leaf l) = leafText (l .measured) (typeSpelt (l .code))
     textWith (call f es) = functionSpelt f ++ openByte ∷ insideWith es
 
     -- the arguments and the closing bracket, from behind the opening one on

@@ -25,7 +25,8 @@ pub const MOST_BYTES: usize = 4096;
 const ENOUGH_BYTES: usize = 3 * MOST_NODES;
 
 // Reads a text and puts the bytes of its expression into the lent buffer. Refused 15 at 4096 for a longer text; then by the first fault in
-// the text: 9 a node too many or too deep, 14 an unknown run where a node may begin, 15 a token misplaced or missing; then 10.
+// the text: 9 a node too many or too deep, 14 an unknown run where a node may begin, 15 a token misplaced or missing; then 10. That a measured
+// leaf is not abstract is no matter of the text: the first pass over the bytes tells.
 pub fn read_text(text: &[u8], out: &mut [u8]) -> TextAnswer
     ensures answer { λ r. ⌜ textPaper r ≡ lentAnswer bytesOf (reading (now (text .entry))) (length (now (out .entry))) ⌝ }
     ensures buffer { λ _. ⌜ now (out .exit) ≡ lentBuffer bytesOf (reading (now (text .entry))) (now (out .entry)) ⌝ }

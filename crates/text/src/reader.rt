@@ -1,12 +1,13 @@
 // A text's nodes, read into a strip of prefix bytes.
 //
-// A node is a type's name, or a function's name with its arguments in brackets. A node is read through its arguments and the arguments
-// through their nodes, so the three functions here call each other; they end because the unread bytes of the text grow fewer.
-// A call's own three bytes are written when its arguments have been read and counted.
+// A node is a type's name, `measured` and a type's name, or a function's name with its arguments in brackets. A node is read through its
+// arguments and the arguments through their nodes, so three functions here call each other; they end because the unread bytes of the text
+// grow fewer. A call's own three bytes are written when its arguments have been read and counted.
 
 ghost use Prim.Native.Nat.{ℕ, _+_, _<_};
+ghost use mathlib.Core.Path.{_≡_};
 ghost use Rattle.expressions.specs.Tree.{mostNodes};
-ghost use Rattle.text.specs.private.ReadStep.{StripRoom, nodeIn, bracketsIn, argsIn, NodeRead, ArgsRead};
+ghost use Rattle.text.specs.private.ReadStep.{StripRoom, LeafRoom, leafStep, leafPut, nodeIn, measuredIn, bracketsIn, argsIn, NodeRead, ArgsRead};
 use crate::strip::put;
 use crate::token::Token;
 use crate::token::next_token;
@@ -14,8 +15,10 @@ use crate::token::place;
 use expressions::CALL;
 use expressions::DEEPEST;
 use expressions::LEAF;
+use expressions::MEASURED_LEAF;
 use expressions::MOST_NODES;
 use names::Word;
+use names::is_measured;
 use names::word_of;
 use scalars::Refusal;
 
@@ -50,13 +53,12 @@ pub(crate) fn read_node(
             if DEEPEST < depth {
                 return Step::Fault(Refusal::TooLarge(start));
             }
+            if is_measured(&text[start..end]) {
+                return read_measured(text, end, nodes, made, names, index, strip);
+            }
             match word_of(&text[start..end], names, index) {
                 Word::Unknown => Step::Fault(Refusal::UnknownRun(start)),
-                Word::TypeName(code) => {
-                    put(strip, made, LEAF);
-                    put(strip, made + 1, code);
-                    Step::Past(end, nodes + 1, made + 2, 1)
-                }
+                Word::TypeName(code) => put_leaf(strip, LEAF, code, end, nodes, made),
                 Word::FunctionName(function) => {
                     match read_brackets(
                         text,
@@ -81,6 +83,40 @@ pub(crate) fn read_node(
         }
         other => Step::Fault(Refusal::Misplaced(place(other))),
     }
+}
+
+// Reads the type of a measured leaf, from behind `measured` on, and nothing else: what is no type is misplaced there.
+fn read_measured(
+    text: &[u8],
+    at: usize,
+    nodes: usize,
+    made: usize,
+    names: &[u8],
+    index: &[u8],
+    strip: &mut [u8],
+) -> Step
+    requires { ⌜ LeafRoom nodes made ⌝ }
+    ensures { λ r. ⌜ NodeRead (now (text .entry)) at nodes made (now (strip .entry)) (now (strip .exit)) (measuredIn (now (names .entry)) (now (index .entry)) (now (text .entry)) at nodes) r ⌝ }
+{
+    match next_token(text, at) {
+        Token::Run(start, end) => match word_of(&text[start..end], names, index) {
+            Word::TypeName(code) => put_leaf(strip, MEASURED_LEAF, code, end, nodes, made),
+            Word::FunctionName(_) => Step::Fault(Refusal::Misplaced(start)),
+            Word::Unknown => Step::Fault(Refusal::Misplaced(start)),
+        },
+        other => Step::Fault(Refusal::Misplaced(place(other))),
+    }
+}
+
+// Writes a leaf of this tag and type from `made` on. Its text ends before `end`, and `nodes` nodes stand before it.
+fn put_leaf(strip: &mut [u8], tag: u8, code: u8, end: usize, nodes: usize, made: usize) -> Step
+    requires { ⌜ LeafRoom nodes made ⌝ }
+    ensures step { λ r. ⌜ r ≡ leafStep end nodes made ⌝ }
+    ensures written { λ _. ⌜ now (strip .exit) ≡ leafPut (now (strip .entry)) made tag code ⌝ }
+{
+    put(strip, made, tag);
+    put(strip, made + 1, code);
+    Step::Past(end, nodes + 1, made + 2, 1)
 }
 
 // Reads a call's arguments in their brackets, from behind its name on.

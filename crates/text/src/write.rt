@@ -17,7 +17,7 @@ use functions::FUNCTION_COUNT;
 use names::built_in_index;
 use names::built_in_names;
 
-// Writes the text of an expression's bytes into the lent buffer. Refused by the first pass's 7, 8 and 9, then 10.
+// Writes the text of an expression's bytes into the lent buffer. Refused by the first pass's 7, 8, 9 and 17, then 10.
 pub fn write_text(bytes: &[u8], out: &mut [u8]) -> TextAnswer
     ensures answer { λ r. ⌜ textPaper r ≡ lentAnswer textOf (expressionOf functionCount (now (bytes .entry))) (length (now (out .entry))) ⌝ }
     ensures buffer { λ _. ⌜ now (out .exit) ≡ lentBuffer textOf (expressionOf functionCount (now (bytes .entry))) (now (out .entry)) ⌝ }
@@ -35,7 +35,7 @@ pub fn write_text(bytes: &[u8], out: &mut [u8]) -> TextAnswer
 
 // Room for the text of any expression.
 fn room() -> [u8; ENOUGH_BYTES]
-    ensures { λ r. ⌜ length r ≡ 1536 ⌝ }
+    ensures { λ r. ⌜ length r ≡ 2112 ⌝ }
 {
     [0; ENOUGH_BYTES]
 }

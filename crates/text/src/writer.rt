@@ -1,23 +1,27 @@
 // An expression's nodes, written into a strip of text.
 //
-// The bytes are those that the first pass accepted. One space stands after each comma, and no other.
+// The bytes are those that the first pass accepted. One space stands after each comma and between `measured` and its type, and no other.
 
 ghost use mathlib.Core.Path.{_≡_};
 ghost use Prim.Native.Nat.{_+_, _≤_};
 ghost use lib.ListN.{length};
 ghost use lib.Seq.{sets};
+ghost use Rattle.text.specs.Writing.{leafText};
 ghost use Rattle.text.specs.private.WriteStep.{textRoom, NodeThere, NodeWritten, RestThere, RestWritten};
 use crate::token::CLOSE;
 use crate::token::COMMA;
 use crate::token::OPEN;
 use crate::token::SPACE;
-use expressions::LEAF;
+use expressions::CALL;
+use expressions::MEASURED_LEAF;
 use expressions::MOST_NODES;
 use names::TYPE_COUNT;
+use names::measured_name;
 use names::spelling;
 
-// The bytes of the text of any expression within the limits: a name has at most 22, and a node brings at most two beside it.
-pub(crate) const ENOUGH_BYTES: usize = 24 * MOST_NODES;
+// The bytes of the text of any expression within the limits: a name has at most 22, `measured` and the space behind it nine, and a node
+// brings at most two beside them.
+pub(crate) const ENOUGH_BYTES: usize = 33 * MOST_NODES;
 
 // How far the writing got: the offset behind what was written, and the text's length so far.
 pub(crate) struct Turn {
@@ -37,9 +41,15 @@ pub(crate) fn write_node(
     requires { ⌜ NodeThere (now bytes) (now names) (now index) at made ⌝ }
     ensures { λ r. ⌜ NodeWritten (now (bytes .entry)) (now (names .entry)) (now (index .entry)) at made (now (strip .entry)) (now (strip .exit)) r ⌝ }
 {
+    let tag = bytes[at];
     let code = bytes[at + 1] as usize;
-    if bytes[at] == LEAF {
-        let full = put_all(strip, made, spelling(names, index, code));
+    if tag != CALL {
+        let full = write_leaf(
+            strip,
+            made,
+            tag == MEASURED_LEAF,
+            spelling(names, index, code),
+        );
         return Turn {
             at: at + 2,
             made: full,
@@ -80,6 +90,20 @@ fn write_rest(
     strip[made + 1] = SPACE;
     let one = write_node(bytes, at, made + 2, names, index, strip);
     write_rest(bytes, one.at, left - 1, one.made, names, index, strip)
+}
+
+// Writes a leaf, measured or not, whose type has this name, from an offset on. Answers the offset behind it.
+fn write_leaf(strip: &mut [u8; ENOUGH_BYTES], at: usize, measured: bool, name: &[u8]) -> usize
+    requires { ⌜ at + length (leafText measured (now name)) ≤ textRoom ⌝ }
+    ensures offset { λ r. ⌜ r ≡ at + length (leafText measured (now (name .entry))) ⌝ }
+    ensures written { λ _. ⌜ now (strip .exit) ≡ sets (now (strip .entry)) at (leafText measured (now (name .entry))) ⌝ }
+{
+    if measured {
+        let full = put_all(strip, at, &measured_name());
+        strip[full] = SPACE;
+        return put_all(strip, full + 1, name);
+    }
+    put_all(strip, at, name)
 }
 
 // Puts bytes on the strip from an offset on, where they have room. Answers the offset behind them.

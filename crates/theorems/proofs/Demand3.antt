@@ -10,6 +10,7 @@ use Prim.Native.Nat.{ℕ, _≤_}
 use native.Mathlib.Omega.{arith}
 use lib.ListN.{length}
 use borrow.Author.Tests.{le-leb}
+use Rattle.types.specs.declared.operand.Operand.{Operand}
 use Rattle.rules.specs.Signature.{Signature}
 use Rattle.functions.specs.Functions.{functionCount, listingOf}
 use Rattle.functions.proofs.Database.{one-length}
@@ -31,40 +32,40 @@ use Rattle.theorems.proofs.Runs.{runs, bytes-run}
 
 module _ (listingOf : ℕ → List Signature) (switch : Bool) (one : (f : ℕ) → OneLength (listingOf f))
     (functions : ℕ) (e : Tree) (fit : WellFormed functions e) where
-  meaning : (x : Typed ℕ) → typeOf listingOf switch e 0 ≡ x → Means listingOf switch e 0 x
+  meaning : (x : Typed Operand) → typeOf listingOf switch e 0 ≡ x → Means listingOf switch e 0 x
   meaning x q = rw q at (means listingOf switch one e 0)
 
-  given : (t : ℕ) (ls : List Line) → Gives listingOf switch e t ls → Worksheet listingOf e t ls
-  given t ls g =
-      let r : runBy (step listingOf) ls 0 [] ≡ ended (t ∷ []) = runs listingOf switch functions e g (fit .known) (fit .few) in
+  given : (o : Operand) (ls : List Line) → Gives listingOf switch e o ls → Worksheet listingOf e o ls
+  given o ls g =
+      let r : runBy (step listingOf) ls 0 [] ≡ ended (o ∷ []) = runs listingOf switch functions e g (fit .within .known) (fit .measurable) (fit .within .few) in
       record {
         itsOwn = own listingOf switch e g;
         linesRun = r;
         bytesRun = bytes-run (step listingOf) ls 0 [] ∙ r;
         needed = four-each ls;
-        suffice = enough listingOf switch e (fit .few) g;
+        suffice = enough listingOf switch e (fit .within .few) g;
       }
 
-  either-one : (x : Typed ℕ) → typeOf listingOf switch e 0 ≡ x
-      → ((t : ℕ) × (ls : List Line) × Gives listingOf switch e t ls) ⊎ Stuck listingOf switch e
-  either-one (typed t ls) q = inl (t, ls, meaning (typed t ls) q)
+  either-one : (x : Typed Operand) → typeOf listingOf switch e 0 ≡ x
+      → ((o : Operand) × (ls : List Line) × Gives listingOf switch e o ls) ⊎ Stuck listingOf switch e
+  either-one (typed o ls) q = inl (o, ls, meaning (typed o ls) q)
   either-one (refused n p) q = inr (fails-stuck listingOf switch one e (meaning (refused n p) q))
 
-  refusal : Stuck listingOf switch e → (x : Typed ℕ) → typeOf listingOf switch e 0 ≡ x
+  refusal : Stuck listingOf switch e → (x : Typed Operand) → typeOf listingOf switch e 0 ≡ x
       → (n : ℕ) × (p : ℕ) × (typeOf listingOf switch e 0 ≡ refused n p)
-  refusal s (typed t ls) q = absurd (not-both listingOf switch one e (meaning (typed t ls) q) s)
+  refusal s (typed o ls) q = absurd (not-both listingOf switch one e (meaning (typed o ls) q) s)
   refusal s (refused n p) q = (n, p, q)
 
-  roomy : (buffer : List ℕ) → enoughBytes ≤ length buffer → (x : Typed ℕ) → typeOf listingOf switch e 0 ≡ x → withRoom buffer x ≡ x
+  roomy : (buffer : List ℕ) → enoughBytes ≤ length buffer → (x : Typed Operand) → typeOf listingOf switch e 0 ≡ x → withRoom buffer x ≡ x
   roomy buffer h (refused n p) q = refl
-  roomy buffer h (typed t ls) q =
-      let n : length (encode ls) ≤ enoughBytes = given t ls (meaning (typed t ls) q) .suffice in
+  roomy buffer h (typed o ls) q =
+      let n : length (encode ls) ≤ enoughBytes = given o ls (meaning (typed o ls) q) .suffice in
       rw (le-leb (length (encode ls)) (length buffer) (omega arith))
 
   holds : Demand3 listingOf switch e
   holds =
       record {
-        accepted = λ t ls. (λ q. meaning (typed t ls) q, λ g. gives-typed listingOf switch one e g 0);
+        accepted = λ o ls. (λ q. meaning (typed o ls) q, λ g. gives-typed listingOf switch one e g 0);
         worksheet = given;
         stuck = (
           λ w. fails-stuck listingOf switch one e (meaning (refused (w .0) (w .1)) (w .2)),
@@ -72,7 +73,7 @@ module _ (listingOf : ℕ → List Signature) (switch : Bool) (one : (f : ℕ) �
         );
         failed = λ n p. (λ q. meaning (refused n p) q, λ w. fails-refused listingOf switch one e w);
         eitherOne = either-one (typeOf listingOf switch e 0) refl;
-        neverBoth = λ t ls g s. not-both listingOf switch one e g s;
+        neverBoth = λ o ls g s. not-both listingOf switch one e g s;
         roomEnough = λ buffer h. roomy buffer h (typeOf listingOf switch e 0) refl;
       }
 

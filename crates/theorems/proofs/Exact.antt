@@ -6,10 +6,12 @@ use mathlib.Core.Path.{_≡_, refl, ap, _∙_}
 use mathlib.Core.Bool.{Bool}
 use mathlib.Core.List.{List}
 use Prim.Native.Nat.{ℕ}
+use Rattle.types.specs.Operand.{codes, anyMeasured, concreteOnly}
+use Rattle.types.specs.declared.operand.Operand.{Operand}
 use Rattle.rules.specs.Signature.{Signature}
 use Rattle.rules.specs.declared.rule.Part.{Part}
 use Rattle.rules.specs.declared.rule.Part.the-variants.{Shape, Number}
-use Rattle.calls.specs.Choice.{Choice, chosen, wrongCount, noneAfter, noneConcrete, resolve}
+use Rattle.calls.specs.Choice.{Choice, chosen, wrongCount, noneAfter, noneConcrete, resolveOf}
 use Rattle.theorems.specs.Taking.{NoRule, Best, OneLength, Emptied, Says}
 use Rattle.theorems.proofs.Choices.{resolve-says}
 use Rattle.theorems.proofs.Demand2.{left-after, none-after, exactly}
@@ -39,47 +41,47 @@ fault-no-rule switch rules ts at places one (noneTakes d) = d .none
 
 module _ (listingOf : ℕ → List Signature) (switch : Bool) where
   -- what an answer means, for an expression at an offset
-  abbrev pub Means : Tree → ℕ → Typed ℕ → Type 0
-  Means e at (typed t ls) = Gives listingOf switch e t ls
+  abbrev pub Means : Tree → ℕ → Typed Operand → Type 0
+  Means e at (typed o ls) = Gives listingOf switch e o ls
   Means e at (refused n p) = Fails listingOf switch e at n p
 
-  abbrev MeansAll : Trees → ℕ → Typed (List ℕ) → Type 0
-  MeansAll es at (typed ts ls) = GiveAll listingOf switch es ts ls
+  abbrev MeansAll : Trees → ℕ → Typed (List Operand) → Type 0
+  MeansAll es at (typed os ls) = GiveAll listingOf switch es os ls
   MeansAll es at (refused n p) = FailsAmong listingOf switch es at n p
 
-  before-means : (e : Tree) (es : Trees) (at : ℕ) (x : Typed ℕ) (y : Typed (List ℕ)) → Means e at x → MeansAll es (behind e at) y
+  before-means : (e : Tree) (es : Trees) (at : ℕ) (x : Typed Operand) (y : Typed (List Operand)) → Means e at x → MeansAll es (behind e at) y
       → MeansAll (more e es) at (before x y)
   before-means e es at (refused n p) y g h = failsFirst g
-  before-means e es at (typed t ls) (refused n p) g h = failsLater g h
-  before-means e es at (typed t ls) (typed ts ls′) g h = moreGive g h
+  before-means e es at (typed o ls) (refused n p) g h = failsLater g h
+  before-means e es at (typed o ls) (typed os ls′) g h = moreGive g h
 
-  conclude-means : (f at : ℕ) (es : Trees) (ts : List ℕ) (ls : List Line) → GiveAll listingOf switch es ts ls → (c : Choice)
-      → Says switch (listingOf f) ts c → Means (call f es) at (conclude f at (starts es (inside at)) ts ls c)
-  conclude-means f at es ts ls g (chosen i r) s = callGives g s
-  conclude-means f at es ts ls g wrongCount s = failsHere g (miscounted s)
-  conclude-means f at es ts ls g (noneAfter Shape k) s = failsHere g (wrongShape s)
-  conclude-means f at es ts ls g (noneAfter Number k) s = failsHere g (wrongNumber s)
-  conclude-means f at es ts ls g noneConcrete s = failsHere g (noneTakes s)
+  conclude-means : (f at : ℕ) (es : Trees) (os : List Operand) (ls : List Line) → GiveAll listingOf switch es os ls → (c : Choice)
+      → Says (concreteOnly switch (anyMeasured os)) (listingOf f) (codes os) c → Means (call f es) at (conclude f at (starts es (inside at)) os ls c)
+  conclude-means f at es os ls g (chosen i r) s = callGives g s
+  conclude-means f at es os ls g wrongCount s = failsHere g (miscounted s)
+  conclude-means f at es os ls g (noneAfter Shape k) s = failsHere g (wrongShape s)
+  conclude-means f at es os ls g (noneAfter Number k) s = failsHere g (wrongNumber s)
+  conclude-means f at es os ls g noneConcrete s = failsHere g (noneTakes s)
 
   -- what is said of a call concludes it: a best rule, or a fault
-  module _ (f at : ℕ) (places : List ℕ) (ts : List ℕ) (ls : List Line) (one : OneLength (listingOf f)) where
-    concluded : (c : Choice) → Says switch (listingOf f) ts c
-        → conclude f at places ts ls (resolve switch (listingOf f) ts) ≡ conclude f at places ts ls c
-    concluded c s = ap (conclude f at places ts ls) (exactly switch (listingOf f) ts one c .1 s)
+  module _ (f at : ℕ) (places : List ℕ) (os : List Operand) (ls : List Line) (one : OneLength (listingOf f)) where
+    concluded : (c : Choice) → Says (concreteOnly switch (anyMeasured os)) (listingOf f) (codes os) c
+        → conclude f at places os ls (resolveOf switch (listingOf f) os) ≡ conclude f at places os ls c
+    concluded c s = ap (conclude f at places os ls) (exactly (concreteOnly switch (anyMeasured os)) (listingOf f) (codes os) one c .1 s)
 
-    conclude-fault : {n p : ℕ} → Fault switch (listingOf f) ts at places n p
-        → conclude f at places ts ls (resolve switch (listingOf f) ts) ≡ refused n p
+    conclude-fault : {n p : ℕ} → Fault (concreteOnly switch (anyMeasured os)) (listingOf f) (codes os) at places n p
+        → conclude f at places os ls (resolveOf switch (listingOf f) os) ≡ refused n p
     conclude-fault (miscounted s) = concluded wrongCount s
     conclude-fault (wrongShape {k} s) = concluded (noneAfter Shape k) s
     conclude-fault (wrongNumber {k} s) = concluded (noneAfter Number k) s
     conclude-fault (noneTakes s) = concluded noneConcrete s
 
   module _ (one : (f : ℕ) → OneLength (listingOf f)) where
-    call-means : (f at : ℕ) (es : Trees) (x : Typed (List ℕ)) → MeansAll es (inside at) x
+    call-means : (f at : ℕ) (es : Trees) (x : Typed (List Operand)) → MeansAll es (inside at) x
         → Means (call f es) at (concludeCall listingOf switch f at (starts es (inside at)) x)
     call-means f at es (refused n p) h = failsInside h
-    call-means f at es (typed ts ls) g =
-        conclude-means f at es ts ls g (resolve switch (listingOf f) ts) (resolve-says switch (listingOf f) ts (one f))
+    call-means f at es (typed os ls) g =
+        conclude-means f at es os ls g (resolveOf switch (listingOf f) os) (resolve-says (concreteOnly switch (anyMeasured os)) (listingOf f) (codes os) (one f))
 
     -- from the answer to its meaning
     mutual
@@ -99,15 +101,15 @@ module _ (listingOf : ℕ → List Signature) (switch : Bool) where
     mutual
       unfolding typeOf
 
-      pub gives-typed : (e : Tree) {t : ℕ} {ls : List Line} → Gives listingOf switch e t ls → (at : ℕ)
-          → typeOf listingOf switch e at ≡ typed t ls
+      pub gives-typed : (e : Tree) {o : Operand} {ls : List Line} → Gives listingOf switch e o ls → (at : ℕ)
+          → typeOf listingOf switch e at ≡ typed o ls
       gives-typed (leaf l) leafGives at = refl
-      gives-typed (call f es) (callGives {i = i} {ts = ts} {ls = ls} {r = r} g b) at =
+      gives-typed (call f es) (callGives {i = i} {os = os} {ls = ls} {r = r} g b) at =
           rw (give-operands es g (inside at))
-          (concluded f at (starts es (inside at)) ts ls (one f) (chosen i r) b)
+          (concluded f at (starts es (inside at)) os ls (one f) (chosen i r) b)
 
-      give-operands : (es : Trees) {ts : List ℕ} {ls : List Line} → GiveAll listingOf switch es ts ls
-          → (at : ℕ) → typeAll listingOf switch es at ≡ typed ts ls
+      give-operands : (es : Trees) {os : List Operand} {ls : List Line} → GiveAll listingOf switch es os ls
+          → (at : ℕ) → typeAll listingOf switch es at ≡ typed os ls
       give-operands none noneGive at = refl
       give-operands (more e es) (moreGive g h) at = rw (gives-typed e g at, give-operands es h (behind e at))
 
@@ -117,9 +119,9 @@ module _ (listingOf : ℕ → List Signature) (switch : Bool) where
       pub fails-refused : (e : Tree) {at : ℕ} {n p : ℕ} → Fails listingOf switch e at n p
           → typeOf listingOf switch e at ≡ refused n p
       fails-refused (call f es) (failsInside h) = rw (fail-among es h)
-      fails-refused (call f es) (failsHere {at = at} {ts = ts} {ls = ls} g w) =
+      fails-refused (call f es) (failsHere {at = at} {os = os} {ls = ls} g w) =
           rw (give-operands es g (inside at))
-          (conclude-fault f at (starts es (inside at)) ts ls (one f) w)
+          (conclude-fault f at (starts es (inside at)) os ls (one f) w)
 
       fail-among : (es : Trees) {at : ℕ} {n p : ℕ} → FailsAmong listingOf switch es at n p
           → typeAll listingOf switch es at ≡ refused n p
@@ -130,30 +132,30 @@ module _ (listingOf : ℕ → List Signature) (switch : Bool) where
     mutual
       pub fails-stuck : (e : Tree) {at : ℕ} {n p : ℕ} → Fails listingOf switch e at n p → Stuck listingOf switch e
       fails-stuck (call f es) (failsInside h) = atArgument (fails-stuck-among es h)
-      fails-stuck (call f es) (failsHere {at = at} {ts = ts} g w) =
-          atCall g (fault-no-rule switch (listingOf f) ts at (starts es (inside at)) (one f) w)
+      fails-stuck (call f es) (failsHere {at = at} {os = os} g w) =
+          atCall g (fault-no-rule (concreteOnly switch (anyMeasured os)) (listingOf f) (codes os) at (starts es (inside at)) (one f) w)
 
       fails-stuck-among : (es : Trees) {at : ℕ} {n p : ℕ} → FailsAmong listingOf switch es at n p → StuckAmong listingOf switch es
       fails-stuck-among (more e es) (failsFirst h) = firstStuck (fails-stuck e h)
       fails-stuck-among (more e es) (failsLater g h) = laterStuck (fails-stuck-among es h)
 
-    operands-one : (es : Trees) {ts ts′ : List ℕ} {ls ls′ : List Line} → GiveAll listingOf switch es ts ls
-        → GiveAll listingOf switch es ts′ ls′
-        → ts ≡ ts′
+    operands-one : (es : Trees) {os os′ : List Operand} {ls ls′ : List Line} → GiveAll listingOf switch es os ls
+        → GiveAll listingOf switch es os′ ls′
+        → os ≡ os′
     operands-one es g g′ = let a = give-operands es g 0 in let b = give-operands es g′ 0 in cc
 
-    no-rule-for : (f : ℕ) (es : Trees) {ts ts′ : List ℕ} {ls ls′ : List Line} {i : ℕ} {r : Signature}
-        → GiveAll listingOf switch es ts ls
-        → Best switch (listingOf f) ts i r → GiveAll listingOf switch es ts′ ls′ → NoRule switch (listingOf f) ts′ → ⊥
+    no-rule-for : (f : ℕ) (es : Trees) {os os′ : List Operand} {ls ls′ : List Line} {i : ℕ} {r : Signature}
+        → GiveAll listingOf switch es os ls
+        → Best (concreteOnly switch (anyMeasured os)) (listingOf f) (codes os) i r → GiveAll listingOf switch es os′ ls′ → NoRule (concreteOnly switch (anyMeasured os′)) (listingOf f) (codes os′) → ⊥
     unfolding NoRule
     no-rule-for f es {i = i} {r = r} g b g′ no-rule = no-rule i r (b .there) (rw (operands-one es g g′) at (b .taken))
 
     mutual
-      pub not-both : (e : Tree) {t : ℕ} {ls : List Line} → Gives listingOf switch e t ls → Stuck listingOf switch e → ⊥
+      pub not-both : (e : Tree) {o : Operand} {ls : List Line} → Gives listingOf switch e o ls → Stuck listingOf switch e → ⊥
       not-both (call f es) (callGives g b) (atArgument s) = not-both-among es g s
       not-both (call f es) (callGives g b) (atCall g′ n) = no-rule-for f es g b g′ n
 
-      not-both-among : (es : Trees) {ts : List ℕ} {ls : List Line} → GiveAll listingOf switch es ts ls
+      not-both-among : (es : Trees) {os : List Operand} {ls : List Line} → GiveAll listingOf switch es os ls
           → StuckAmong listingOf switch es → ⊥
       not-both-among (more e es) (moreGive g h) (firstStuck s) = not-both e g s
       not-both-among (more e es) (moreGive g h) (laterStuck s) = not-both-among es h s

@@ -1,12 +1,13 @@
 -- What the first pass reads has no more levels than it may. Assumes nothing.
 use mathlib.Core.Path.{_≡_, subst}
-use mathlib.Core.Bool.{Bool, true, false}
+use mathlib.Core.Bool.{Bool, true, false, not}
 use mathlib.Core.List.{List}
 use Prim.Native.Nat.{ℕ, zero, suc, _+_, _≤_}
 use native.Mathlib.Omega.{arith}
 use lib.Dec.{eqb, leb, ltb}
 use Rattle.scalars.specs.Mask.{choose}
-use Rattle.expressions.specs.Tree.{Tree, Trees, call, more, mostNodes, deepest, lastLeaf, leafTag, callTag}
+use Rattle.types.specs.Operand.{measuredAbstract}
+use Rattle.expressions.specs.Tree.{Tree, Trees, call, more, mostNodes, deepest, lastLeaf, leafTag, callTag, measuredTag}
 use Rattle.expressions.specs.Reading.{Reading, done, refused, Expression, read, refusedAs, andThen, argsAt, present, byteAt, leafAt, callAt, taggedAt, nodeAt, whole, expressionOf}
 use Rattle.expressions.proofs.Sound.{followed}
 use Rattle.expressions.specs.Limits.{levels, levelsAll}
@@ -46,18 +47,24 @@ module _ (d : ℕ) where
   call-low f (done es at n) p = omega arith
 
 module _ (functions : ℕ) (s : List ℕ) where
+  leaf-low : (measured : Bool) (d at n : ℕ) → Low (suc d) (leafAt measured s at n)
+  unfolding leafAt levels
+  leaf-low measured d at n =
+      choose-low (suc d) (present s (at + 1)) _ _
+      (choose-low (suc d) (leb (byteAt s (at + 1)) lastLeaf) _ _
+      (choose-low (suc d) (not (measuredAbstract (record { code = byteAt s (at + 1); measured = measured }))) _ _ (omega arith) tt) tt) tt
+
   tagged-low : (d : ℕ) (node : ℕ → ℕ → Reading Tree) → ((at n : ℕ) → Low d (node at n)) → (at n : ℕ)
       → Low (suc d) (taggedAt functions s node at n)
-  unfolding taggedAt leafAt callAt levels
+  unfolding taggedAt callAt
   tagged-low d node p at n =
-      choose-low (suc d) (eqb (byteAt s at) leafTag) _ _
-      (choose-low (suc d) (present s (at + 1)) _ _ (choose-low (suc d) (leb (byteAt s (at + 1)) lastLeaf) _ _ (omega arith) tt) tt)
+      choose-low (suc d) (eqb (byteAt s at) leafTag) _ _ (leaf-low false d at n)
       (choose-low (suc d) (eqb (byteAt s at) callTag) _ _
       (choose-low (suc d) (present s (at + 1)) _ _
       (choose-low (suc d) (ltb (byteAt s (at + 1)) functions) _ _
       (choose-low (suc d) (present s (at + 2)) _ _
       (call-low d (byteAt s (at + 1)) (argsAt node (byteAt s (at + 2)) (at + 3) (n + 1)) (args-low d node p (byteAt s (at + 2)) (at + 3) (n + 1)))
-      tt) tt) tt) tt)
+      tt) tt) tt) (choose-low (suc d) (eqb (byteAt s at) measuredTag) _ _ (leaf-low true d at n) tt))
 
   node-low : (d at n : ℕ) → Low d (nodeAt functions s d at n)
   unfolding nodeAt

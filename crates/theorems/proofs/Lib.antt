@@ -13,6 +13,7 @@ pub mod Singleton
 pub mod Papers
 pub mod Combination
 pub mod Known
+pub mod InOrder
 pub mod AgreedScalar
 pub mod Givers
 pub mod Consensus
@@ -50,6 +51,12 @@ pub mod Runs
 pub mod Demand3
 pub mod Expressions
 pub mod Readings
+-- measured operands
+pub mod MeasuredRules
+pub mod MeasuredRuns
+pub mod MeasuredTypes
+pub mod Measured
+pub mod MeasuredAnswers
 -- texts
 pub mod TextTokens
 pub mod TextWords

@@ -18,6 +18,7 @@ use Rattle.theorems.proofs.AnyPapers.{any-one}
 use Rattle.theorems.proofs.ChosenPapers.{list-one, chosen-one}
 use Rattle.theorems.proofs.SurvivorsPapers.{survivors-one}
 use Rattle.calls.proofs.OutcomePapers.{outcome-one}
+use Rattle.calls.proofs.CallPapers.{call-one}
 use Rattle.lending.proofs.MaskPapers.{mask-one}
 use Rattle.names.proofs.WordPapers.{word-one}
 use Rattle.text.proofs.TextPapers.{text-one}
@@ -61,9 +62,13 @@ each-function = record {
   «code_of» = λ κs a x y v w p q. (code-one x y (p ∙ sym q), refl);
   «leaf_scalar» = λ κs a x y v w p q. (leaf-one x y (p ∙ sym q), refl);
   «is_abstract» = λ κs a x y v w p q. (p ∙ sym q, refl);
-  «first_unknown» = λ κs a x y v w p q. (p ∙ sym q, refl);
   -- expressions
   «read_expression» = λ κs a x y v w p q. (read-one x y (p ∙ sym q), refl);
+  «Operand::of» = λ κs a x y v w p q. (p ∙ sym q, refl);
+  «Operand::mark» = λ κs a x y v w p q. (p ∙ sym q, refl);
+  «Operand::is_measured_abstract» = λ κs a x y v w p q. (p ∙ sym q, refl);
+  «any_measured» = λ κs a x y v w p q. (p ∙ sym q, refl);
+  «concrete_only» = λ κs a x y v w p q. (p ∙ sym q, refl);
   -- rules
   «no_rules» = λ κs a x y v w p q. (p ∙ sym q, refl);
   «no_codes» = λ κs a x y v w p q. (p ∙ sym q, refl);
@@ -124,7 +129,7 @@ each-function = record {
   «filter_both» = λ κs a x y v w p q. (both-one x y (p .0 ∙ sym (q .0)) (p .1 ∙ ap (sift (passes (Argument Number (a .1 .1 .0) (a .1 .1 .1 .0))) (signatures (a .0))) (p .0 ∙ sym (q .0)) ∙ sym (q .1)), refl);
   «longest» = λ κs a x y v w p q. (count-one x y (p ∙ sym q), refl);
   -- calls
-  «call_of» = λ κs a x y v w p q. (chosen-one x y (p ∙ sym q), refl);
+  «call_of» = λ κs a x y v w p q. (call-one x y (p ∙ sym q), refl);
   «outcome_of» = λ κs a x y v w p q. (outcome-one x y (p ∙ sym q), refl);
   «survivors_of» = λ κs a x y v w p q. (survivors-one x y (p ∙ sym q), refl);
   «full_list» = λ κs a x y v w p q. (p ∙ sym q, refl);
@@ -138,6 +143,8 @@ each-function = record {
   «built_in_index» = λ κs a x y v w p q. (p ∙ sym q, refl);
   «spelling» = λ κs a x y v w p q. (p ∙ sym q, refl);
   «word_of» = λ κs a x y v w p q. (word-one x y (p ∙ sym q), refl);
+  «measured_name» = λ κs a x y v w p q. (p ∙ sym q, refl);
+  «is_measured» = λ κs a x y v w p q. (p ∙ sym q, refl);
   -- text
   «read_text» = λ κs a x y v w p q. (text-one x y (p .0 ∙ sym (q .0)), ap (λ l. (tt, (l, tt))) (p .1 ∙ sym (q .1)));
   «write_text» = λ κs a x y v w p q. (text-one x y (p .0 ∙ sym (q .0)), ap (λ l. (tt, (l, tt))) (p .1 ∙ sym (q .1)));
@@ -157,6 +164,7 @@ each-function = record {
   «type_expression» = λ κs a x y v w p q. (type-one x y (p .0 ∙ sym (q .0)), ap (λ l. (tt, (tt, (l, tt)))) (p .1 ∙ sym (q .1)));
   -- c_answers
   «chosen_for_c» = λ κs a x y v w p q. (p ∙ sym q, refl);
+  «call_for_c» = λ κs a x y v w p q. (p ∙ sym q, refl);
   «rule_for_c» = λ κs a x y v w p q. (p ∙ sym q, refl);
   «regular_for_c» = λ κs a x y v w p q. (p ∙ sym q, refl);
   «consensus_for_c» = λ κs a x y v w p q. (p ∙ sym q, refl);
@@ -172,7 +180,7 @@ each-function = record {
   «azwukran_regular_preferred» = λ κs a x y v w p q. (p ∙ sym q, refl);
   «azwukran_regular_rule» = λ κs a x y v w p q. (p ∙ sym q, refl);
   «azwukran_call» = λ κs a x y v w p q. (p ∙ sym q, refl);
-  «azwukran_survivors» = λ κs a x y v w p q. (p .0 ∙ sym (q .0), ap (λ l. (tt, (tt, (tt, (l, tt))))) (p .1 ∙ sym (q .1)));
+  «azwukran_survivors» = λ κs a x y v w p q. (p .0 ∙ sym (q .0), ap (λ l. (tt, (tt, (tt, (tt, (l, tt)))))) (p .1 ∙ sym (q .1)));
   «azwukran_rule» = λ κs a x y v w p q. (p ∙ sym q, refl);
   «azwukran_consensus» = λ κs a x y v w p q. (p ∙ sym q, refl);
   «azwukran_type» = λ κs a x y v w p q. (p .0 ∙ sym (q .0), ap (λ l. (tt, (tt, (l, tt)))) (p .1 ∙ sym (q .1)));

@@ -2,23 +2,33 @@
 -- of two trees start the same byte string, then the trees are the same, and so is what follows them.
 -- Assumes nothing.
 use mathlib.Core.Path.{_≡_, refl, sym, ap, ap₂, _∙_}
+use mathlib.Core.Bool.{Bool, true, false}
 use mathlib.Core.List.{List, [], _∷_, _++_, append-assoc}
 use Prim.Native.Nat.{ℕ}
 use native.Mathlib.Omega.{arith}
-use Rattle.expressions.specs.Tree.{Tree, Trees, leaf, call, none, more, count, bytesOf, bytesOfAll}
+use Rattle.expressions.specs.Tree.{Tree, Trees, leaf, call, none, more, count, tagOf, callTag, bytesOf, bytesOfAll}
 
-tags-differ : {A : Type 0} {x y : List ℕ} → 0 ∷ x ≡ 1 ∷ y → A
-tags-differ e = let z : _≡_ {A = ℕ} 0 1 = cc in absurd (omega arith)
+-- a leaf's tag is no call's, and tells whether the leaf is measured
+tags-differ : {A : Type 0} (measured : Bool) {x y : List ℕ} → tagOf measured ∷ x ≡ callTag ∷ y → A
+tags-differ false e = let z : _≡_ {A = ℕ} 0 1 = cc in absurd (omega arith)
+tags-differ true e = let z : _≡_ {A = ℕ} 2 1 = cc in absurd (omega arith)
+
+one-tag : (a b : Bool) → tagOf a ≡ tagOf b → a ≡ b
+one-tag false false e = refl
+one-tag true true e = refl
+one-tag false true e = absurd (omega arith)
+one-tag true false e = absurd (omega arith)
 
 mutual
   unfolding count bytesOf
 
   pub same-front : (e e′ : Tree) (x y : List ℕ) → bytesOf e ++ x ≡ bytesOf e′ ++ y → (e ≡ e′) × (x ≡ y)
   same-front (leaf l) (leaf l′) x y h =
-      let p : l .type ≡ l′ .type = cc in
-      (ap (λ t. leaf (record { type = t })) p, cc)
-  same-front (leaf l) (call f es) x y h = tags-differ h
-  same-front (call f es) (leaf l) x y h = tags-differ (sym h)
+      let t : tagOf (l .measured) ≡ tagOf (l′ .measured) = cc in
+      let p : l .code ≡ l′ .code = cc in
+      (ap₂ (λ m t. leaf (record { code = t; measured = m })) (one-tag (l .measured) (l′ .measured) t) p, cc)
+  same-front (leaf l) (call f es) x y h = tags-differ (l .measured) h
+  same-front (call f es) (leaf l) x y h = tags-differ (l .measured) (sym h)
   same-front (call f es) (call f′ es′) x y h =
       let p : f ≡ f′ = cc in
       let n : count es ≡ count es′ = cc in

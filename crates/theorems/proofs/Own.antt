@@ -7,6 +7,9 @@ use Prim.Native.Nat.{ℕ, suc}
 use lib.Dec.{eqb}
 use lib.ListN.{length}
 use Rattle.scalars.specs.Mask.{choose}
+use Rattle.types.specs.Operand.{codes}
+use Rattle.types.specs.declared.operand.Operand.{Operand}
+use Rattle.types.proofs.Operands.{codes-length}
 use Rattle.rules.specs.Signature.{Signature}
 use Rattle.expressions.specs.Tree.{Tree, Trees, leaf, call, none, more, count}
 use Rattle.machine.specs.Line.{Line, leafLine, conversionLine, callLine, conversions, callLines}
@@ -38,13 +41,13 @@ module _ (listingOf : ℕ → List Signature) (switch : Bool) where
   mutual
     unfolding order ownOf count
 
-    pub own : (e : Tree) {t : ℕ} {ls : List Line} → Gives listingOf switch e t ls → ownOf ls ≡ order e
+    pub own : (e : Tree) {o : Operand} {ls : List Line} → Gives listingOf switch e o ls → ownOf ls ≡ order e
     own (leaf l) leafGives = refl
-    own (call f es) (callGives {i = i} {ts = ts} {ls = ls} {r = r} g b) =
-        own-call f i ls ts r ∙ rw (own-all es g .0, own-all es g .1)
+    own (call f es) (callGives {i = i} {os = os} {ls = ls} {r = r} g b) =
+        own-call f i ls (codes os) r ∙ rw (codes-length os, own-all es g .0, own-all es g .1)
 
-    own-all : (es : Trees) {ts : List ℕ} {ls : List Line} → GiveAll listingOf switch es ts ls
-        → (ownOf ls ≡ orderAll es) × (length ts ≡ count es)
+    own-all : (es : Trees) {os : List Operand} {ls : List Line} → GiveAll listingOf switch es os ls
+        → (ownOf ls ≡ orderAll es) × (length os ≡ count es)
     own-all none noneGive = (refl, refl)
     own-all (more e es) (moreGive {ls = ls} {ls′ = ls′} g h) =
         (own-append ls ls′ ∙ rw (own e g, own-all es h .0), ap suc (own-all es h .1))

@@ -7,7 +7,7 @@ use Rattle.machine.specs.declared.machine.Run.the-variants.{Ended, Stopped}
 use Rattle.machine.specs.Run.{runPaper}
 
 pub run-one : (a b : Run) → runPaper a ≡ runPaper b → a ≡ b
-run-one (Ended n t) (Ended m u) e = cc
-run-one (Ended n t) (Stopped l) e = let z : _≡_ {A = ℕ} 0 1 = cc in absurd (omega arith)
-run-one (Stopped k) (Ended m u) e = let z : _≡_ {A = ℕ} 0 1 = cc in absurd (omega arith)
+run-one (Ended n t b) (Ended m u d) e = cc
+run-one (Ended n t b) (Stopped l) e = let z : _≡_ {A = ℕ} 0 1 = cc in absurd (omega arith)
+run-one (Stopped k) (Ended m u d) e = let z : _≡_ {A = ℕ} 0 1 = cc in absurd (omega arith)
 run-one (Stopped k) (Stopped l) e = cc

@@ -10,19 +10,20 @@ use lib.ListN.{length, take, drop, length-append}
 use lib.Dec.{ltb}
 use Rattle.scalars.specs.Mask.{choose}
 use Rattle.functions.specs.Functions.{functionCount}
-use Rattle.names.specs.Names.{aType, aFunction, typeName, functionName, named}
-use Rattle.names.proofs.Named.{type-named, function-named}
+use Rattle.names.specs.Names.{typeCount, typeName, functionName, measuredName, same, named}
+use Rattle.names.proofs.SameBytes.{same-self}
+use Rattle.names.proofs.Named.{type-named, function-named, type-other, function-other}
 use Rattle.expressions.specs.Tree.{Tree, Trees, leaf, call, none, more, nodes, nodesAll, mostNodes}
 use Rattle.expressions.specs.Known.{Known, KnownAll}
 use Rattle.expressions.specs.Limits.{levels, levelsAll}
 use Rattle.expressions.specs.Reading.{Reading, done, refused, andThen}
 use Rattle.expressions.proofs.Bytes.{after}
 use Rattle.text.specs.declared.token.Token.the-variants.{Open, Close, Comma, Run}
-use Rattle.text.specs.Tokens.{openByte, closeByte, commaByte, separates, next}
-use Rattle.text.specs.Grammar.{spaces, Layout, Others, leafLaid, emptyLaid, callLaid, closeLaid, commaLaid, laid, laidOthers, treeOf, treesOf}
-use Rattle.text.specs.Reading.{onRun, onOpen, onClose, onMore, argsAt, bracketsAt, wordAt, nodeAt}
+use Rattle.text.specs.Tokens.{spaceByte, openByte, closeByte, commaByte, separates, next}
+use Rattle.text.specs.Grammar.{spaces, Layout, Others, leafLaid, measuredLaid, emptyLaid, callLaid, closeLaid, commaLaid, laid, laidOthers, treeOf, treesOf}
+use Rattle.text.specs.Reading.{onRun, onOpen, onClose, onMore, argsAt, bracketsAt, wordAt, typeAt, measuredAt, runNode, nodeAt}
 use Rattle.theorems.proofs.TextTokens.{spaces-length, Ends, RunAt, run-at, open-at, close-at, comma-at}
-use Rattle.theorems.proofs.TextWords.{Word, type-word, function-word}
+use Rattle.theorems.proofs.TextWords.{Word, type-word, function-word, measured-word}
 
 -- ---- a word ends where a layout goes on
 
@@ -81,46 +82,58 @@ module _ (s : List ℕ) where
   unfolding argsAt
   next-fault d left at n e = ap (λ z. andThen z (following (nodeAt named s d) left)) e
 
+  -- a node by its first word, which stands from p to e
+  abbrev pub worded : (ℕ → ℕ → Reading Tree) → ℕ → ℕ → ℕ → List ℕ → Reading Tree
+  worded node p e n w = choose (same w measuredName) (measuredAt named s e n) (wordAt named s node p e n (named w))
+
   -- a node that begins with a word
   module _ (d at n k : ℕ) (w r : List ℕ) (word : Word w) (e : drop at s ≡ spaces k ++ (w ++ r)) (q : Ends r) where
     pub the-run : RunAt s at k w r
     the-run = run-at s at k w r e (word .some) (word .clean-is) q
 
     pub begins : nodeAt named s (suc d) at n
-        ≡ choose (ltb n mostNodes) (wordAt named s (nodeAt named s d) (at + k) (at + k + length w) n (named w)) (refused 9 (at + k))
-    unfolding nodeAt
+        ≡ choose (ltb n mostNodes) (worded (nodeAt named s d) (at + k) (at + k + length w) n w) (refused 9 (at + k))
+    unfolding nodeAt runNode
     begins =
-        ap (λ t. onRun t (λ p e. choose (ltb n mostNodes) (wordAt named s (nodeAt named s d) p e n (named (take (e - p) (drop p s))))
-        (refused 9 p))) (the-run .token)
-        ∙ ap (λ run. choose (ltb n mostNodes) (wordAt named s (nodeAt named s d) (at + k) (at + k + length w) n (named run))
-        (refused 9 (at + k))) (the-run .run)
+        ap (λ t. onRun t (λ p e. choose (ltb n mostNodes) (worded (nodeAt named s d) p e n (take (e - p) (drop p s))) (refused 9 p))) (the-run .token)
+        ∙ ap (λ run. choose (ltb n mostNodes) (worded (nodeAt named s d) (at + k) (at + k + length w) n run) (refused 9 (at + k))) (the-run .run)
 
     pub too-deep : nodeAt named s zero at n ≡ refused 9 (at + k)
     unfolding nodeAt
     too-deep = ap (λ t. onRun t (λ p e. refused 9 p)) (the-run .token)
 
     pub node-begins : {here : Reading Tree} {Within : Type 0}
-        → (n < mostNodes → Meets (wordAt named s (nodeAt named s d) (at + k) (at + k + length w) n (named w)) here Within)
+        → (n < mostNodes → Meets (worded (nodeAt named s d) (at + k) (at + k + length w) n w) here Within)
         → (mostNodes ≤ n → Within → ⊥) → Meets (nodeAt named s (suc d) at n) here Within
     node-begins {here} {Within} f g = subst⁻¹ (λ x. Meets x here Within) begins (go (ltb n mostNodes) refl)
       where
         go : (b : Bool) → ltb n mostNodes ≡ b
-            → Meets (choose b (wordAt named s (nodeAt named s d) (at + k) (at + k + length w) n (named w)) (refused 9 (at + k))) here Within
+            → Meets (choose b (worded (nodeAt named s d) (at + k) (at + k + length w) n w) (refused 9 (at + k))) here Within
         go true e = f (ltb-true n mostNodes e)
         go false e = over (at + k) refl (g (ltb-false n mostNodes e))
 
-  -- ---- brackets
+  -- ---- what the first word says, and brackets
 
   module _ (node : ℕ → ℕ → Reading Tree) where
-    pub leaf-word : (p e n t : ℕ) (w : List ℕ) → named w ≡ aType t
-        → wordAt named s node p e n (named w) ≡ done (leaf (record { type = t })) e (n + 1)
+    leaf-word : (p e n t : ℕ) → t < typeCount → worded node p e n (typeName t) ≡ done (leaf (record { code = t; measured = false })) e (n + 1)
     unfolding wordAt
-    leaf-word p e n t w h = ap (wordAt named s node p e n) h
+    leaf-word p e n t h =
+        ap₂ (λ b w. choose b (measuredAt named s e n) (wordAt named s node p e n w)) (type-other t h) (type-named t h)
 
-    pub call-word : (p e n f : ℕ) (w : List ℕ) → named w ≡ aFunction f
-        → wordAt named s node p e n (named w) ≡ andThen (bracketsAt named s node e (n + 1)) (λ es. done (call f es))
+    measured-leaf : (p e n a b t : ℕ) → next s e ≡ Run a b → take (b - a) (drop a s) ≡ typeName t → t < typeCount
+        → worded node p e n measuredName ≡ done (leaf (record { code = t; measured = true })) b (n + 1)
+    unfolding measuredAt typeAt
+    measured-leaf p e n a b t run is h =
+        ap (λ b. choose b (measuredAt named s e n) (wordAt named s node p e n (named measuredName))) (same-self measuredName)
+        ∙ ap (λ t. onRun t (λ p e. typeAt named s p e n (named (take (e - p) (drop p s))))) run
+        ∙ ap (λ run. typeAt named s a b n (named run)) is
+        ∙ ap (typeAt named s a b n) (type-named t h)
+
+    call-word : (p e n f : ℕ) → f < functionCount
+        → worded node p e n (functionName f) ≡ andThen (bracketsAt named s node e (n + 1)) (λ es. done (call f es))
     unfolding wordAt
-    call-word p e n f w h = ap (wordAt named s node p e n) h
+    call-word p e n f h =
+        ap₂ (λ b w. choose b (measuredAt named s e n) (wordAt named s node p e n w)) (function-other f h) (function-named f h)
 
     pub brackets-empty : (at n p q : ℕ) → next s at ≡ Open p → next s (p + 1) ≡ Close q → bracketsAt named s node at n ≡ done none (q + 1) n
     unfolding bracketsAt
@@ -141,6 +154,8 @@ module _ (s : List ℕ) where
   unfolding laid treeOf Known separates
   first-run (leafLaid k t) at r known e q =
       (_, _, the-run 0 at 0 k (typeName t) r (type-word t (omega arith)) (e ∙ append-assoc (spaces k) (typeName t) r) q .token)
+  first-run (measuredLaid k j t) at r known e q =
+      (_, _, the-run 0 at 0 k measuredName (spaceByte ∷ (spaces j ++ (typeName t ++ r))) measured-word (e ∙ simp append-assoc) refl .token)
   first-run (emptyLaid k f j i) at r known e q = (
     _,
     _,
@@ -199,11 +214,28 @@ module _ (s : List ℕ) where
       ≡ at + length (spaces k ++ (functionName f ++ (spaces j ++ openByte ∷ (spaces i ++ closeByte ∷ [])))) =
       simp (length-append, spaces-length) (omega arith) in
       node-begins d at n k (functionName f) _ (function-word f known) split (ends-spaces j openByte _ refl)
-      (λ _. met (call-word (nodeAt named s d) (at + k) (at + k + length (functionName f)) n f (functionName f) (function-named f known)
+      (λ _. met (call-word (nodeAt named s d) (at + k) (at + k + length (functionName f)) n f known
       ∙ ap (λ a. andThen a (λ es. done (call f es)))
       (brackets-empty (nodeAt named s d) (at + k + length (functionName f)) (n + 1) (at + k + length (functionName f) + j)
       (at + k + length (functionName f) + j + 1 + i) (v .token) (c .token))
       ∙ ap (λ a. done (call f none) a (n + 1)) behind))
+      (λ full w. omega (arith, w .1))
+
+  measured-met : (k j t d at n : ℕ) (r : List ℕ) → t < typeCount
+      → drop at s ≡ spaces k ++ (measuredName ++ spaceByte ∷ (spaces j ++ (typeName t ++ r))) → Ends r → NodeMet (measuredLaid k j t) d at n
+  unfolding laid treeOf nodes levels separates
+  measured-met k j t zero at n r known split q =
+      over (at + k) (too-deep 0 at n k measuredName _ measured-word split refl) (λ w. omega (arith, w .0))
+  measured-met k j t (suc d) at n r known split q =
+      let word = the-run d at n k measuredName (spaceByte ∷ (spaces j ++ (typeName t ++ r))) measured-word split refl in
+      let x = type-word t known in
+      let name = run-at s (at + k + length measuredName) (suc j) (typeName t) r (word .rest) (x .some) (x .clean-is) q in
+      let behind : at + k + length measuredName + suc j + length (typeName t)
+      ≡ at + length (spaces k ++ (measuredName ++ spaceByte ∷ (spaces j ++ typeName t))) =
+      simp (length-append, spaces-length) (omega arith) in
+      node-begins d at n k measuredName _ measured-word split refl
+      (λ _. met (measured-leaf (nodeAt named s d) (at + k) (at + k + length measuredName) n _ _ t (name .token) (name .run) known
+      ∙ ap (λ a. done (leaf (record { code = t; measured = true })) a (n + 1)) behind))
       (λ full w. omega (arith, w .1))
 
   mutual
@@ -218,9 +250,10 @@ module _ (s : List ℕ) where
         let behind : at + k + length (typeName t)
         ≡ at + length (spaces k ++ typeName t) = omega (arith, length-append (spaces k) (typeName t), spaces-length k) in
         node-begins d at n k (typeName t) r (type-word t (omega arith)) split q
-        (λ _. met (leaf-word (nodeAt named s d) (at + k) (at + k + length (typeName t)) n t (typeName t) (type-named t (omega arith))
-        ∙ ap (λ a. done (leaf (record { type = t })) a (n + 1)) behind))
+        (λ _. met (leaf-word (nodeAt named s d) (at + k) (at + k + length (typeName t)) n t (omega arith)
+        ∙ ap (λ a. done (leaf (record { code = t; measured = false })) a (n + 1)) behind))
         (λ full w. omega (arith, w .1))
+    node-met (measuredLaid k j t) d at n r known e q = measured-met k j t d at n r (omega arith) (e ∙ simp append-assoc) q
     node-met (emptyLaid k f j i) d at n r known e q =
         empty-met k f j i d at n r (known .0) (e ∙ simp append-assoc)
     node-met (callLaid k f j x o) zero at n r known e q =
@@ -245,8 +278,7 @@ module _ (s : List ℕ) where
         ≡ at + length (spaces k ++ (functionName f ++ (spaces j ++ openByte ∷ (laid x ++ laidOthers o)))) =
         simp (length-append, spaces-length) (omega arith) in
         node-begins d at n k (functionName f) _ (function-word f (known .0)) split (ends-spaces j openByte _ refl)
-        (λ _. then-met (call f) (call-word (nodeAt named s d) (at + k) (at + k + length (functionName f)) n f (functionName f)
-        (function-named f (known .0))
+        (λ _. then-met (call f) (call-word (nodeAt named s d) (at + k) (at + k + length (functionName f)) n f (known .0)
         ∙ ap (λ a. andThen a (λ es. done (call f es)))
         (brackets-full (nodeAt named s d) (at + k + length (functionName f)) (n + 1) (at + k + length (functionName f) + j) (first .0)
         (first .1) (v .token) (first .2)))

@@ -33,7 +33,7 @@ short-text s h = simp (le-ltb mostBytes (length s) h)
 pub read-if : (s : List ℕ) (e : Tree) → Spells s e → reading s ≡ read e
 read-if s e x =
     short-text s (x .short)
-    ∙ go (node-met s (x .layout) deepest 0 0 (spaces (x .behind)) (subst⁻¹ (Known functionCount) (x .tree-is) (x .well-formed .known))
+    ∙ go (node-met s (x .layout) deepest 0 0 (spaces (x .behind)) (subst⁻¹ (Known functionCount) (x .tree-is) (x .within .known))
     (x .text-is) (ends-blank (x .behind)))
   where
     size : length s ≡ length (laid (x .layout)) + x .behind
@@ -46,7 +46,7 @@ read-if s e x =
     go : NodeMet s (x .layout) deepest 0 0 → whole named s (nodeAt named s deepest 0 0) ≡ read e
     go (met m) = ap (whole named s) m ∙ ap (atEnd named s (treeOf (x .layout))) end ∙ ap read (x .tree-is)
     go (over p m out) =
-        absurd (out (omega (arith, ap levels (x .tree-is), x .well-formed .low), omega (arith, ap nodes (x .tree-is), x .well-formed .few)))
+        absurd (out (omega (arith, ap levels (x .tree-is), x .within .low), omega (arith, ap nodes (x .tree-is), x .within .few)))
 
 -- ---- what is read is spelled
 
@@ -62,7 +62,7 @@ end-ok s h e a m x (End p) t = record {
   tree-is = x .tree-is;
   text-is = x .text ∙ ap (λ l. laid (x .layout) ++ l)
       (t .text ∙ ap (λ l. spaces (t .blank) ++ l) (drop-of-length-le s (t .kind)) ∙ append-nil (spaces (t .blank)));
-  well-formed = record { known = x .known; few = omega (arith, x .nodes-is, x .few); low = x .low };
+  within = record { known = x .known; few = omega (arith, x .nodes-is, x .few); low = x .low };
   short = h;
 }
 end-ok s h e a m x (Open p) t = tt

@@ -1,5 +1,6 @@
 -- The first fault of a text, told by which texts begin as it does. Assumes nothing.
 use mathlib.Core.Path.{_≡_, refl, sym, ap, ap₂, _∙_, subst, subst⁻¹}
+use mathlib.Core.Logic.{⊎-elim}
 use mathlib.Core.List.{List, [], _++_, append-assoc, append-nil}
 use Prim.Native.Nat.{ℕ, _+_, _≤_, _<_}
 use native.Mathlib.Omega.{arith}
@@ -9,7 +10,7 @@ use Rattle.functions.specs.Functions.{functionCount}
 use Rattle.names.specs.Names.{typeName, named}
 use Rattle.expressions.specs.Tree.{Tree, deepest}
 use Rattle.expressions.specs.Known.{Known}
-use Rattle.expressions.specs.Limits.{WellFormed}
+use Rattle.expressions.specs.Limits.{Within}
 use Rattle.expressions.specs.Reading.{Reading, done, refused, Expression, read, refusedAs}
 use Rattle.expressions.proofs.Bytes.{after}
 use Rattle.text.specs.declared.token.Token.{Token}
@@ -21,7 +22,7 @@ use Rattle.theorems.specs.Texts.{Laid, Begins, Strange, Limit, FirstFaul
 use Rattle.theorems.proofs.TextTokens.{spaces-length, end-at, Kind, Standing, standing}
 use Rattle.theorems.proofs.TextComplete.{met, over, ends-blank, NodeMet, node-met}
 use Rattle.theorems.proofs.TextSound.{Why, limit, strange, wrong, NodeSpelt, NodeFault, NodeOk, node-ok}
-use Rattle.theorems.proofs.TextLocal.{SameToken, same-token, NodeLocal, node-local}
+use Rattle.theorems.proofs.TextLocal.{Whole, SameToken, same-token, NodeLocal, node-local}
 use Rattle.theorems.proofs.TextExact.{short-text}
 
 -- ---- what a text of the grammar is not answered
@@ -39,12 +40,12 @@ not-refused s n p h other l = go (root-met s l)
     go (met m) = let e = sym m ∙ h in let z : _≡_ {A = ℕ} 0 1 = cc in omega arith
     go (over q m out) = let e = sym h ∙ m in other cc
 
-not-limited : (s : List ℕ) (p : ℕ) → root s ≡ refused 9 p → (l : Laid s) → WellFormed functionCount (treeOf (l .layout)) → ⊥
-not-limited s p h l formed = go (root-met s l)
+not-limited : (s : List ℕ) (p : ℕ) → root s ≡ refused 9 p → (l : Laid s) → Within functionCount (treeOf (l .layout)) → ⊥
+not-limited s p h l within = go (root-met s l)
   where
     go : NodeMet s (l .layout) deepest 0 0 → ⊥
     go (met m) = let e = sym m ∙ h in let z : _≡_ {A = ℕ} 0 1 = cc in omega arith
-    go (over q m out) = out (formed .low, omega (arith, formed .few))
+    go (over q m out) = out (within .low, omega (arith, within .few))
 
 -- a token is left
 abbrev Left : Token → Type 0
@@ -83,10 +84,14 @@ module _ (s : List ℕ) (q : ℕ) (rest : List ℕ) (in-text : q ≤ length s) w
   common : length (take q s) ≡ q
   common = omega (arith, length-take q s)
 
-  fault-shared : (n p : ℕ) → root s ≡ refused n p → p < q → (n ≡ 14 → (e : ℕ) → next s p ≡ Run p e → e < q) → root other ≡ refused n p
+  fault-shared : (n p : ℕ) → root s ≡ refused n p → p < q → (Whole s n p → (e : ℕ) → next s p ≡ Run p e → e < q) → root other ≡ refused n p
   fault-shared n p h near run =
-      subst (NodeLocal (take q s) (drop q s) rest deepest 0 0) (ap root back ∙ h) (node-local (take q s) (drop q s) rest deepest 0 0 (omega arith))
-      (omega (arith, common), λ z e k. let y = run z e (sym (ap (λ t. next t p) back) ∙ k) in omega (arith, common))
+      subst (NodeLocal (take q s) (drop q s) rest deepest 0 0) (ap root back ∙ h) (node-local (take q s) (drop q s) rest deepest 0 0 (omega arith)) (
+        omega (arith, common),
+        λ z e k.
+            let y = run (subst (λ l. Whole l n p) back z) e (sym (ap (λ t. next t p) back) ∙ k) in
+            omega (arith, common),
+      )
 
   tree-shared : (e : Tree) (a m : ℕ) → root s ≡ done e a m → a < q → root other ≡ done e a m
   tree-shared e a m h near =
@@ -105,6 +110,9 @@ module _ (s : List ℕ) (q : ℕ) (rest : List ℕ) (in-text : q ≤ length s) w
       go (End p) k left near = absurd left
 
 -- ---- a fault in a node
+
+run-some : (s : List ℕ) (p e : ℕ) → next s p ≡ Run p e → p < e
+run-some s p e k = subst (Kind s) k (standing s p .kind) .some
 
 taken : (s b : List ℕ) (p : ℕ) → s ≡ b ++ drop p s → p ≤ length s → take p s ≡ b
 taken s b p e h =
@@ -135,20 +143,26 @@ module _ (s : List ℕ) (n p : ℕ) (h : root s ≡ refused n p) (x : NodeFault 
         ∙ ap (λ b. b ++ x .rest) front-is ∙ x .completes ∙ sym (append-nil (laid (x .layout)));
   }
 
-  run-some : (e : ℕ) → next s p ≡ Run p e → p < e
-  run-some e k = subst (Kind s) k (standing s p .kind) .some
+  -- no text of the grammar begins with the run there and the byte behind it
+  whole-run : (n ≡ 9 → ⊥) → (e : ℕ) → next s p ≡ Run p e → e < length s → Begins (take (e + 1) s) → ⊥
+  whole-run other e k inside b =
+      not-refused (take (e + 1) s ++ b .rest) n p
+      (fault-shared s (e + 1) (b .rest) (omega arith) n p h (omega (arith, run-some s p e k))
+      (λ _ e′ k′. let w = sym k ∙ k′ in let v : e ≡ e′ = cc in omega arith))
+      other (b .laid-is)
 
   strange-here : (i : ℕ) → Why s p i → i ≡ n → n ≡ 14 → Strange s p
   unfolding node-laid
   strange-here i (limit e k) y z = absurd (omega arith)
   strange-here i wrong y z = absurd (omega arith)
-  strange-here i (strange e k none) y z =
+  strange-here i (strange e k none other) y z =
       let different : n ≡ 15 → ⊥ = λ w. omega arith in
       let small = x .small z in
       record {
         end = e;
         run = k;
         nothing = none;
+        other = other;
         node-here = record {
           rest = x .may different .0;
           laid-is = node-laid different;
@@ -159,15 +173,11 @@ module _ (s : List ℕ) (n p : ℕ) (h : root s ≡ refused n p) (x : NodeFault 
             low = small .0;
           };
         };
-        no-other = λ inside b.
-            not-refused (take (e + 1) s ++ b .rest) n p
-            (fault-shared s (e + 1) (b .rest) (omega arith) n p h (omega (arith, run-some e k))
-            (λ _ e′ k′. let w = sym k ∙ k′ in let v : e ≡ e′ = cc in omega arith))
-            (λ y. omega arith) (b .laid-is);
+        no-other = whole-run (λ y. omega arith) e k;
       }
 
   limit-here : (i : ℕ) → Why s p i → i ≡ n → n ≡ 9 → Limit s p
-  limit-here i (strange e k none) y z = absurd (omega arith)
+  limit-here i (strange e k none other) y z = absurd (omega arith)
   limit-here i wrong y z = absurd (omega arith)
   limit-here i (limit e k) y z =
       let different : n ≡ 15 → ⊥ = λ w. omega arith in
@@ -178,7 +188,8 @@ module _ (s : List ℕ) (n p : ℕ) (h : root s ≡ refused n p) (x : NodeFault 
         node-here = record { rest = x .may different .0; laid-is = node-laid different };
         none-within = λ b.
             not-limited (take (p + 1) s ++ b .rest) p
-            (fault-shared s (p + 1) (b .rest) (omega (arith, r .some, r .within)) n p h (omega arith) (λ y. absurd (omega arith))
+            (fault-shared s (p + 1) (b .rest) (omega (arith, r .some, r .within)) n p h (omega arith)
+            (⊎-elim (λ y. absurd (omega arith)) (λ y. absurd (omega (arith, y .0))))
             ∙ ap (λ j. refused j p) z)
             (b .laid-is) (b .within);
       }
@@ -187,9 +198,11 @@ module _ (s : List ℕ) (n p : ℕ) (h : root s ≡ refused n p) (x : NodeFault 
   node-fault = record {
     begins = begins-here;
     no-text = not-refused s n p h;
-    misplaced = λ z inside b.
-        not-refused (take (p + 1) s ++ b .rest) n p (fault-shared s (p + 1) (b .rest) (omega arith) n p h (omega arith) (λ y. absurd (omega arith)))
+    misplaced = λ z inside free b.
+        not-refused (take (p + 1) s ++ b .rest) n p
+        (fault-shared s (p + 1) (b .rest) (omega arith) n p h (omega arith) (⊎-elim (λ y. absurd (omega arith)) (λ y. absurd (free (y .1)))))
         (λ y. omega arith) (b .laid-is);
+    misplacedRun = λ z. whole-run (λ y. omega arith);
     strange = strange-here n (x .why) refl;
     limit = limit-here n (x .why) refl;
   }
@@ -211,13 +224,16 @@ left-fault s e a m h x u t left = record {
     };
   };
   no-text = λ _. not-left s e a m h (subst⁻¹ Left (t .is) left);
-  misplaced = λ _ inside b.
-      not-left (take (place u + 1) s ++ b .rest) e a m
-      (tree-shared s (place u + 1) (b .rest) (omega arith) e a m h (omega (arith, t .place-is)))
-      (left-shared s (place u + 1) (b .rest) (omega arith) a u (t .is) left (omega arith)) (b .laid-is);
+  misplaced = λ _ inside _. none-begins (place u + 1) (omega arith) (omega arith);
+  misplacedRun = λ _ end k inside. none-begins (end + 1) (omega (arith, run-some s (place u) end k)) (omega arith);
   strange = λ z. absurd (omega arith);
   limit = λ z. absurd (omega arith);
 }
+  where
+    none-begins : (q : ℕ) → place u < q → q ≤ length s → Begins (take q s) → ⊥
+    none-begins q past inside b =
+        not-left (take q s ++ b .rest) e a m (tree-shared s q (b .rest) inside e a m h (omega (arith, t .place-is)))
+        (left-shared s q (b .rest) inside a u (t .is) left past) (b .laid-is)
 
 -- ---- the whole
 

@@ -1,7 +1,7 @@
 -- Reading and writing texts is what specs/TextFunctions.antt says of the entry points. What goes into a lent buffer is said once, of a tree
 -- that was read; the rest is what holds of the definitions. Assumes nothing.
 use mathlib.Core.Path.{_≡_, refl, sym, ap, _∙_}
-use mathlib.Core.Logic.{_↔_}
+use mathlib.Core.Logic.{_↔_, _⊎_, ⊎-elim, inl, inr}
 use mathlib.Core.Bool.{Bool, true, false}
 use mathlib.Core.List.{List, [], _∷_, _++_}
 use Prim.Native.Nat.{ℕ, _*_, _≤_, _<_}
@@ -24,9 +24,9 @@ use Rattle.text.specs.Lent.{lentAnswer, lentBuffer}
 use Rattle.text.specs.Reading.{reading}
 use Rattle.text.specs.TextPaper.{textPaper}
 use Rattle.text.specs.Writing.{textOf}
+use Rattle.text.proofs.SpeltTexts.{text-short}
 use Rattle.theorems.specs.TextFunctions.{Lends, Reads, Writes, Theorem}
 use Rattle.theorems.proofs.AcceptsExactly.{accepts-only}
-use Rattle.theorems.proofs.TextWritten.{text-short}
 use Rattle.theorems.proofs.Texts.{texts}
 
 -- a node has at most three bytes of its own
@@ -88,16 +88,35 @@ module _ (wanted : Tree → List ℕ) (x : Expression) (d : List ℕ) (r : TextA
       go (read e) q = fit e q (ltb (length d) (length (wanted e))) refl
       go (refusedAs k p) q = accepted-refused (sym h ∙ unmade k p q)
 
-  kept : (n p : ℕ) → textPaper r ≡ paper.refusal n p (unused ∷ []) → d′ ≡ d
-  kept n p h = go x refl
-    where
-      fit : (e : Tree) → x ≡ read e → (b : Bool) → ltb (length d) (length (wanted e)) ≡ b → d′ ≡ d
-      fit e q true k = left q ∙ placed-short (wanted e) d (ltb-true (length d) (length (wanted e)) k)
-      fit e q false k = accepted-refused (sym (made e q (ltb-false (length d) (length (wanted e)) k)) ∙ h)
+  -- a refusal: the fault that was read, or 10 where a tree was
+  module _ (n p : ℕ) (h : textPaper r ≡ paper.refusal n p (unused ∷ [])) where
+    data Why : Type 0 where
+      unread : x ≡ refusedAs n p → Why
+      roomless : (e : Tree) → x ≡ read e → length d < length (wanted e) → n ≡ 10 → Why
 
-      go : (y : Expression) → x ≡ y → d′ ≡ d
-      go (read e) q = fit e q (ltb (length d) (length (wanted e))) refl
-      go (refusedAs k j) q = left q
+    why : Why
+    why = go x refl
+      where
+        fit : (e : Tree) → x ≡ read e → (b : Bool) → ltb (length d) (length (wanted e)) ≡ b → Why
+        fit e q true k =
+            let less = ltb-true (length d) (length (wanted e)) k in
+            let z = sym h ∙ too-short e q less in
+            roomless e q less cc
+        fit e q false k = accepted-refused (sym (made e q (ltb-false (length d) (length (wanted e)) k)) ∙ h)
+
+        go : (y : Expression) → x ≡ y → Why
+        go (read e) q = fit e q (ltb (length d) (length (wanted e))) refl
+        go (refusedAs k j) q =
+            let z = sym h ∙ unmade k j q in
+            let same : refusedAs k j ≡ refusedAs n p = cc in
+            unread (q ∙ same)
+
+    kept : d′ ≡ d
+    kept = go why
+      where
+        go : Why → d′ ≡ d
+        go (unread q) = left q
+        go (roomless e q k _) = left q ∙ placed-short (wanted e) d k
 
   lends : (Given : Tree → Type 0) → ((e : Tree) → x ≡ read e ↔ Given e) → Lends Given wanted d r d′
   lends Given same =
@@ -123,11 +142,20 @@ module _ (s d : List ℕ) (r : TextAnswer) (d′ : List ℕ)
         rw same at (ap (take (length (bytesOf e))) l ∙ take-append-seam (bytesOf e) (drop (length (bytesOf e)) d)),
       )
 
+  numbers : (n p : ℕ) {h : textPaper r ≡ paper.refusal n p (unused ∷ [])} → Why bytesOf (reading s) d r d′ answer buffer n p h
+      → (n ≡ 9) ⊎ (n ≡ 10) ⊎ (n ≡ 14) ⊎ (n ≡ 15)
+  numbers n p (roomless e q k is) = inr (inl is)
+  numbers n p (unread q) =
+      let x = texts .refused s (λ e k. let z = sym q ∙ texts .exactly s e .1 k in let y : _≡_ {A = ℕ} 0 1 = cc in omega arith) in
+      let z = sym q ∙ x .answer in
+      let same : x .number ≡ n = cc in
+      ⊎-elim (λ i. inl (sym same ∙ i)) (⊎-elim (λ i. inr (inr (inl (sym same ∙ i)))) (λ i. inr (inr (inr (sym same ∙ i))))) (x .one-of)
+
   read-so : Reads s d r d′
   read-so =
       record {
         lends = lends bytesOf (reading s) d r d′ answer buffer (Spells s) (texts .exactly s);
-        suffices = λ h e k. omega (arith, few-bytes e, k .well-formed .few);
+        suffices = λ h e k. omega (arith, few-bytes e, k .within .few);
         faulty = λ h none.
             let k = texts .refused s none in (
               k .number,
@@ -138,6 +166,7 @@ module _ (s d : List ℕ) (r : TextAnswer) (d′ : List ℕ)
               texts .firstFault s (k .number) (k .place) h (k .answer),
             );
         tooLong = λ h. unmade bytesOf (reading s) d r d′ answer buffer 15 mostBytes (texts .tooLong s h);
+        numbers = λ n p h. numbers n p (why bytesOf (reading s) d r d′ answer buffer n p h);
       }
 
 module _ (b d : List ℕ) (r : TextAnswer) (d′ : List ℕ)
@@ -162,7 +191,7 @@ module _ (b d : List ℕ) (r : TextAnswer) (d′ : List ℕ)
       record {
         lends = lends textOf first d r d′ answer buffer (λ e. first ≡ read e) (λ e. (λ h. h, λ h. h));
         suffices = λ h e q.
-            let w = accepts-only functionCount b e q .1 in
+            let w = accepts-only functionCount b e q .1 .within in
             omega (arith, text-short e (w .known), w .few);
         within = λ e q. texts .thereAndBack b e q .2;
         faulty = unmade textOf first d r d′ answer buffer;

@@ -1,6 +1,8 @@
 -- What the reader answers of a place in a text depends on the bytes up to that place only: a text that begins with the same bytes, the one at
--- the place included, is answered the same. For 14 they have to reach behind the run. Assumes nothing.
-use mathlib.Core.Path.{_≡_, refl, sym, ap, _∙_, subst⁻¹}
+-- the place included, is answered the same. For 14, and for 15 at a run behind `measured`, they have to reach behind the run.
+-- Assumes nothing.
+use mathlib.Core.Path.{_≡_, refl, sym, ap, ap₂, _∙_, subst⁻¹}
+use mathlib.Core.Logic.{_⊎_, inl, inr}
 use mathlib.Core.Bool.{Bool, true, false}
 use mathlib.Core.List.{List, [], _∷_, _++_}
 use Prim.Native.Nat.{ℕ, zero, suc, _+_, _-_, _≤_, _<_}
@@ -11,15 +13,17 @@ use lib.ListN.{length, getD, take, drop, length-append, length-drop, List·getD-
 use lib.Seq.{drop-append-le, take-append-le}
 use lib.Dec.{eqb, ltb}
 use Rattle.scalars.specs.Mask.{choose}
-use Rattle.names.specs.Names.{Named, aType, aFunction, unknown, named}
+use Rattle.names.specs.Names.{Named, aType, aFunction, unknown, measuredName, same, named}
+use Rattle.names.proofs.SameBytes.{same-is}
 use Rattle.expressions.specs.Tree.{Tree, Trees, call, none, more, mostNodes}
 use Rattle.expressions.specs.Reading.{Reading, done, refused, andThen}
 use Rattle.text.specs.declared.token.Token.{Token}
 use Rattle.text.specs.declared.token.Token.the-variants.{Open, Close, Comma, Run, End}
 use Rattle.text.specs.Tokens.{spaceByte, openByte, closeByte, commaByte, separates, gap, extent, tokenAt, next, place}
-use Rattle.text.specs.Reading.{onRun, onOpen, onClose, onMore, argsAt, bracketsAt, wordAt, nodeAt}
+use Rattle.text.specs.Reading.{onRun, onOpen, onClose, onMore, argsAt, bracketsAt, wordAt, typeAt, measuredAt, runNode, nodeAt}
+use Rattle.theorems.specs.Texts.{BehindMeasured}
 use Rattle.theorems.proofs.TextTokens.{place-of, Standing, standing}
-use Rattle.theorems.proofs.TextComplete.{following, next-arg, next-fault, node-least}
+use Rattle.theorems.proofs.TextComplete.{following, worded, next-arg, next-fault, node-least}
 use Rattle.theorems.proofs.TextSound.{NodeOk, ArgsOk, args-ok, node-ok}
 
 -- ---- tokens
@@ -51,6 +55,10 @@ headed b p e = choose (eqb b openByte) (Open p) (choose (eqb b closeByte) (Close
 headed-is : (s : List ℕ) (p : ℕ) → p < length s → tokenAt s p ≡ headed (getD s p 0) p (p + extent (drop p s))
 unfolding tokenAt
 headed-is s p h = simp (lt-leb (length s) p h)
+
+-- a run at p is judged as a whole for 14, and for 15 where it stands behind `measured`
+abbrev pub Whole : List ℕ → ℕ → ℕ → Type 0
+Whole s k p = (k ≡ 14) ⊎ ((k ≡ 15) × BehindMeasured s p)
 
 -- two texts that begin with u
 module _ (u v v′ : List ℕ) where
@@ -129,9 +137,9 @@ module _ (u v v′ : List ℕ) where
 
   -- ---- nodes and arguments
 
-  -- the bytes in common reach over the place, and for 14 over the run there
+  -- the bytes in common reach over the place, and over the run there if it is judged as a whole
   abbrev pub Seen : ℕ → ℕ → Type 0
-  Seen k p = (p < length u) × (k ≡ 14 → (e : ℕ) → next s p ≡ Run p e → e < length u)
+  Seen k p = (p < length u) × (Whole s k p → (e : ℕ) → next s p ≡ Run p e → e < length u)
 
   abbrev pub NodeLocal : ℕ → ℕ → ℕ → Reading Tree → Type 0
   NodeLocal d at n (done x a m) = a < length u → nodeAt named s′ d at n ≡ done x a m
@@ -195,25 +203,63 @@ module _ (u v v′ : List ℕ) where
             sign (End p) t same = λ seen. absurd (same (seen .0))
 
     -- a node that begins with a run
-    module _ (at n p e : ℕ) (t : Standing s at (Run p e)) (same : SameToken at (Run p e)) where
+    module _ (at n p e : ℕ) (t : Standing s at (Run p e)) (shared : SameToken at (Run p e)) where
       pub enters : (e′ : ℕ) → next s′ at ≡ Run p e′ → nodeAt named s′ (suc d) at n
-          ≡ choose (ltb n mostNodes) (wordAt named s′ (nodeAt named s′ d) p e′ n (named (take (e′ - p) (drop p s′)))) (refused 9 p)
+          ≡ choose (ltb n mostNodes) (runNode named s′ (nodeAt named s′ d) p e′ n) (refused 9 p)
       unfolding nodeAt
-      enters e′ h = ap (λ t. onRun t (λ p e. choose (ltb n mostNodes)
-          (wordAt named s′ (nodeAt named s′ d) p e n (named (take (e - p) (drop p s′)))) (refused 9 p))) h
+      enters e′ h = ap (λ t. onRun t (λ p e. choose (ltb n mostNodes) (runNode named s′ (nodeAt named s′ d) p e n) (refused 9 p))) h
 
       limit-local : ltb n mostNodes ≡ false → Seen 9 p → nodeAt named s′ (suc d) at n ≡ refused 9 p
       limit-local full seen =
-          let x = same .0 (seen .0) in
-          enters (x .0) (x .1) ∙ ap (λ b. choose b (wordAt named s′ (nodeAt named s′ d) p (x .0) n (named (take (x .0 - p) (drop p s′))))
-          (refused 9 p)) full
+          let x = shared .0 (seen .0) in
+          enters (x .0) (x .1) ∙ ap (λ b. choose b (runNode named s′ (nodeAt named s′ d) p (x .0) n) (refused 9 p)) full
 
-      module _ (few : ltb n mostNodes ≡ true) (w : Named) (name : named (take (e - p) (drop p s)) ≡ w) where
+      abbrev run : List ℕ
+      run = take (e - p) (drop p s)
+
+      begins-there : ltb n mostNodes ≡ true → e < length u → nodeAt named s′ (suc d) at n ≡ worded s′ (nodeAt named s′ d) p e n run
+      unfolding runNode
+      begins-there few h =
+          let x = shared .1 h in
+          enters e (x .0) ∙ ap (λ b. choose b (runNode named s′ (nodeAt named s′ d) p e n) (refused 9 p)) few
+          ∙ ap (worded s′ (nodeAt named s′ d) p e n) (x .1)
+
+      -- `measured`
+      module _ (is : run ≡ measuredName) (begun : e < length u → nodeAt named s′ (suc d) at n ≡ measuredAt named s′ e n) where
+        on-type : (t : Token) → next s′ e ≡ t
+            → measuredAt named s′ e n ≡ onRun t (λ p′ e′. typeAt named s′ p′ e′ n (named (take (e′ - p′) (drop p′ s′))))
+        unfolding measuredAt
+        on-type t h = ap (λ t. onRun t (λ p′ e′. typeAt named s′ p′ e′ n (named (take (e′ - p′) (drop p′ s′))))) h
+
+        module _ (p′ e′ : ℕ) (y : Standing s e (Run p′ e′)) (k : SameToken e (Run p′ e′)) where
+          type-there : (w : Named) → named (take (e′ - p′) (drop p′ s)) ≡ w → e′ < length u
+              → nodeAt named s′ (suc d) at n ≡ typeAt named s′ p′ e′ n w
+          type-there w name h =
+              let x = k .1 h in
+              begun (omega (arith, y .place-is, y .kind .some)) ∙ on-type (Run p′ e′) (x .0)
+              ∙ ap (λ r. typeAt named s′ p′ e′ n (named r)) (x .1) ∙ ap (typeAt named s′ p′ e′ n) name
+
+          behind : BehindMeasured s p′
+          behind = record { start = p; end = e; word = t .again; word-is = is; last = e′; run = y .is }
+
+          type-local : (w : Named) → named (take (e′ - p′) (drop p′ s)) ≡ w → NodeLocal (suc d) at n (typeAt named s p′ e′ n w)
+          unfolding typeAt
+          type-local (aType c) name = λ h. type-there (aType c) name h
+          type-local (aFunction f) name = λ seen. type-there (aFunction f) name (seen .1 (inr (refl, behind)) e′ (y .again))
+          type-local unknown name = λ seen. type-there unknown name (seen .1 (inr (refl, behind)) e′ (y .again))
+
+        measured-local : (t : Token) → Standing s e t → SameToken e t
+            → NodeLocal (suc d) at n (onRun t (λ p′ e′. typeAt named s p′ e′ n (named (take (e′ - p′) (drop p′ s)))))
+        measured-local (Run b b′) v k = type-local b b′ v k (named (take (b′ - b) (drop b s))) refl
+        measured-local (Open b) v k = λ seen. begun (omega (arith, v .place-is, seen .0)) ∙ on-type (Open b) (k (seen .0))
+        measured-local (Close b) v k = λ seen. begun (omega (arith, v .place-is, seen .0)) ∙ on-type (Close b) (k (seen .0))
+        measured-local (Comma b) v k = λ seen. begun (omega (arith, v .place-is, seen .0)) ∙ on-type (Comma b) (k (seen .0))
+        measured-local (End b) v k = λ seen. absurd (k (seen .0))
+
+      module _ (few : ltb n mostNodes ≡ true) (other : same run measuredName ≡ false) (w : Named) (name : named run ≡ w) where
         word-there : e < length u → nodeAt named s′ (suc d) at n ≡ wordAt named s′ (nodeAt named s′ d) p e n w
         word-there h =
-            let x = same .1 h in
-            enters e (x .0) ∙ ap (λ b. choose b (wordAt named s′ (nodeAt named s′ d) p e n (named (take (e - p) (drop p s′)))) (refused 9 p)) few
-            ∙ ap (λ r. wordAt named s′ (nodeAt named s′ d) p e n (named r)) (x .1) ∙ ap (wordAt named s′ (nodeAt named s′ d) p e n) name
+            begins-there few h ∙ ap₂ (λ b w. choose b (measuredAt named s′ e n) (wordAt named s′ (nodeAt named s′ d) p e n w)) other name
 
       -- a function's name
       module _ (few : n < mostNodes) (f : ℕ)
@@ -278,16 +324,28 @@ module _ (u v v′ : List ℕ) where
             called (omega (arith, o .place-is, seen .0)) ∙ ap making (on-bracket (Run b (k .0 (seen .0) .0)) (k .0 (seen .0) .1))
         brackets-local (End b) o k = λ seen. absurd (k (seen .0))
 
-      word-local : ltb n mostNodes ≡ true → (w : Named) → named (take (e - p) (drop p s)) ≡ w
+      word-local : ltb n mostNodes ≡ true → same run measuredName ≡ false → (w : Named) → named run ≡ w
           → NodeLocal (suc d) at n (wordAt named s (nodeAt named s d) p e n w)
       unfolding wordAt bracketsAt
-      word-local few (aType c) name = λ h. word-there few (aType c) name h
-      word-local few (aFunction f) name =
-          brackets-local (ltb-true n mostNodes few) f (λ h. word-there few (aFunction f) name h) (next s e) (standing s e) (same-token e)
-      word-local few unknown name = λ seen. word-there few unknown name (seen .1 refl e (t .again))
+      word-local few other (aType c) name = λ h. word-there few other (aType c) name h
+      word-local few other (aFunction f) name =
+          brackets-local (ltb-true n mostNodes few) f (λ h. word-there few other (aFunction f) name h) (next s e) (standing s e) (same-token e)
+      word-local few other unknown name = λ seen. word-there few other unknown name (seen .1 (inl refl) e (t .again))
+
+      run-local : ltb n mostNodes ≡ true → NodeLocal (suc d) at n (worded s (nodeAt named s d) p e n run)
+      unfolding measuredAt
+      run-local few = go (same run measuredName) refl
+        where
+          go : (b : Bool) → same run measuredName ≡ b
+              → NodeLocal (suc d) at n (choose b (measuredAt named s e n) (wordAt named s (nodeAt named s d) p e n (named run)))
+          go true h =
+              measured-local (same-is run measuredName h)
+              (λ k. begins-there few k ∙ ap (λ b. choose b (measuredAt named s′ e n) (wordAt named s′ (nodeAt named s′ d) p e n (named run))) h)
+              (next s e) (standing s e) (same-token e)
+          go false h = word-local few h (named run) refl
 
   pub node-local : (d at n : ℕ) → at ≤ length s → NodeLocal d at n (nodeAt named s d at n)
-  unfolding nodeAt
+  unfolding nodeAt runNode
   node-local zero at n h = go (next s at) (same-token at)
     where
       stays : (t : Token) → next s′ at ≡ t → nodeAt named s′ zero at n ≡ onRun t (λ p e. refused 9 p)
@@ -305,18 +363,16 @@ module _ (u v v′ : List ℕ) where
       Below = (at n : ℕ) → at ≤ length s → NodeLocal d at n (nodeAt named s d at n)
 
       stays : (t : Token) → next s′ at ≡ t → nodeAt named s′ (suc d) at n
-          ≡ onRun t (λ p e. choose (ltb n mostNodes) (wordAt named s′ (nodeAt named s′ d) p e n (named (take (e - p) (drop p s′)))) (refused 9 p))
-      stays t e = ap (λ t. onRun t (λ p e. choose (ltb n mostNodes)
-          (wordAt named s′ (nodeAt named s′ d) p e n (named (take (e - p) (drop p s′)))) (refused 9 p))) e
+          ≡ onRun t (λ p e. choose (ltb n mostNodes) (runNode named s′ (nodeAt named s′ d) p e n) (refused 9 p))
+      stays t e = ap (λ t. onRun t (λ p e. choose (ltb n mostNodes) (runNode named s′ (nodeAt named s′ d) p e n) (refused 9 p))) e
 
       run : Below → (p e : ℕ) → Standing s at (Run p e) → SameToken at (Run p e) → (b : Bool) → ltb n mostNodes ≡ b
-          → NodeLocal (suc d) at n (choose b (wordAt named s (nodeAt named s d) p e n (named (take (e - p) (drop p s)))) (refused 9 p))
-      run below p e t k true few = word-local d below at n p e t k few (named (take (e - p) (drop p s))) refl
+          → NodeLocal (suc d) at n (choose b (runNode named s (nodeAt named s d) p e n) (refused 9 p))
+      run below p e t k true few = run-local d below at n p e t k few
       run below p e t k false full = limit-local d below at n p e t k full
 
       go : Below → (t : Token) → Standing s at t → SameToken at t
-          → NodeLocal (suc d) at n (onRun t
-          (λ p e. choose (ltb n mostNodes) (wordAt named s (nodeAt named s d) p e n (named (take (e - p) (drop p s)))) (refused 9 p)))
+          → NodeLocal (suc d) at n (onRun t (λ p e. choose (ltb n mostNodes) (runNode named s (nodeAt named s d) p e n) (refused 9 p)))
       go below (Run p e) t k = run below p e t k (ltb n mostNodes) refl
       go below (Open p) t k = λ seen. stays (Open p) (k (seen .0))
       go below (Close p) t k = λ seen. stays (Close p) (k (seen .0))

@@ -10,7 +10,8 @@ use lib.ListN.{length, take, drop}
 use lib.Dec.{ltb}
 use Rattle.scalars.specs.Mask.{choose}
 use Rattle.functions.specs.Functions.{functionCount}
-use Rattle.names.specs.Names.{Named, aType, aFunction, unknown, typeName, functionName, named}
+use Rattle.names.specs.Names.{Named, aType, aFunction, unknown, typeName, functionName, measuredName, same, named}
+use Rattle.names.proofs.SameBytes.{same-is, same-self}
 use Rattle.names.proofs.Named.{named-type, named-function}
 use Rattle.expressions.specs.Tree.{Tree, Trees, leaf, call, none, more, nodes, nodesAll, mostNodes}
 use Rattle.expressions.specs.Known.{Known, KnownAll}
@@ -18,21 +19,26 @@ use Rattle.expressions.specs.Limits.{levels, levelsAll}
 use Rattle.expressions.specs.Reading.{Reading, done, refused, andThen}
 use Rattle.text.specs.declared.token.Token.{Token}
 use Rattle.text.specs.declared.token.Token.the-variants.{Open, Close, Comma, Run, End}
-use Rattle.text.specs.Tokens.{openByte, closeByte, commaByte, next, place}
-use Rattle.text.specs.Grammar.{spaces, Layout, Others, leafLaid, emptyLaid, callLaid, closeLaid, commaLaid, laid, laidOthers, treeOf, treesOf}
-use Rattle.text.specs.Reading.{onRun, onOpen, onClose, onMore, argsAt, bracketsAt, wordAt, nodeAt}
-use Rattle.theorems.proofs.TextTokens.{Standing, standing}
-use Rattle.theorems.proofs.TextComplete.{following, node-least}
+use Rattle.text.specs.Tokens.{spaceByte, openByte, closeByte, commaByte, next, place}
+use Rattle.text.specs.Grammar.{spaces, Layout, Others, leafLaid, measuredLaid, emptyLaid, callLaid, closeLaid, commaLaid, laid, laidOthers, treeOf, treesOf}
+use Rattle.text.specs.Reading.{onRun, onOpen, onClose, onMore, argsAt, bracketsAt, wordAt, typeAt, measuredAt, runNode, nodeAt}
+use Rattle.theorems.proofs.TextTokens.{clash, runs-apart, Standing, standing}
+use Rattle.theorems.proofs.TextComplete.{following, worded, node-least}
 
--- why a text is refused at p: for 9 and 14 a run stands there, which for 14 names nothing
+-- why a text is refused at p: for 9 and 14 a run stands there, which for 14 names nothing and is not `measured`
 pub data Why (s : List ℕ) (p : ℕ) : ℕ → Type 0 where
   limit : (e : ℕ) → next s p ≡ Run p e → Why s p 9
-  strange : (e : ℕ) → next s p ≡ Run p e → named (take (e - p) (drop p s)) ≡ unknown → Why s p 14
+  strange : (e : ℕ) → next s p ≡ Run p e → named (take (e - p) (drop p s)) ≡ unknown → (take (e - p) (drop p s) ≡ measuredName → ⊥) → Why s p 14
   wrong : Why s p 15
 
 -- it begins with a node
 abbrev pub Node : List ℕ → Type 0
 Node rest = (behind : List ℕ) × (rest ≡ typeName 0 ++ behind)
+
+-- so many spaces behind `measured`, with what makes them the beginning of a type
+type-behind : (k : ℕ) → (rest : List ℕ) × (j : ℕ) × (spaces k ++ rest ≡ spaceByte ∷ (spaces j ++ typeName 0))
+type-behind zero = (spaceByte ∷ typeName 0, 0, refl)
+type-behind (suc j) = (typeName 0, j, refl)
 
 module _ (s : List ℕ) where
   -- the text from `at` to a is laid out as this tree
@@ -237,7 +243,7 @@ module _ (s : List ℕ) where
       run-text : (w : List ℕ) → run ≡ w → drop at s ≡ spaces (t .blank) ++ (w ++ drop e s)
       run-text w h = let r = t .kind in t .text ∙ ap (λ l. spaces (t .blank) ++ l) (r .text ∙ ap (λ l. l ++ drop e s) h)
 
-      leaf-ok : (c : ℕ) → named run ≡ aType c → NodeSpelt (suc d) at n (leaf (record { type = c })) e (n + 1)
+      leaf-ok : (c : ℕ) → named run ≡ aType c → NodeSpelt (suc d) at n (leaf (record { code = c; measured = false })) e (n + 1)
       unfolding laid treeOf nodes levels Known
       leaf-ok c h =
           let r = t .kind in
@@ -255,10 +261,10 @@ module _ (s : List ℕ) where
             within = r .within;
           }
 
-      strange-fault : named run ≡ unknown → NodeFault (suc d) at n 14 p
+      strange-fault : named run ≡ unknown → (run ≡ measuredName → ⊥) → NodeFault (suc d) at n 14 p
       unfolding laid treeOf nodes levels Known
-      strange-fault h = record {
-        why = strange e (t .again) h;
+      strange-fault h other = record {
+        why = strange e (t .again) h other;
         later = omega (arith, t .place-is);
         first = omega (arith, ap place (t .is));
         within = omega (arith, t .kind .some, t .kind .within);
@@ -271,6 +277,67 @@ module _ (s : List ℕ) where
         known = omega arith;
         small = λ _. (omega arith, omega arith);
       }
+
+      -- `measured`
+      module _ (is : run ≡ measuredName) where
+        no-type : (u : Token) → Standing s e u → NodeFault (suc d) at n 15 (place u)
+        unfolding laid treeOf Known
+        no-type u v =
+            let (rest, j, makes) = type-behind (v .blank) in
+            record {
+              why = wrong;
+              later = omega (arith, t .place-is, t .kind .some, v .place-is);
+              first = omega (arith, ap place (t .is), t .kind .some, v .place-is);
+              within = v .within (t .kind .within);
+              before = spaces (t .blank) ++ (measuredName ++ spaces (v .blank));
+              text = run-text measuredName is ∙ ap (λ l. spaces (t .blank) ++ (measuredName ++ l)) (v .text) ∙ simp append-assoc;
+              rest = rest;
+              may = λ z. absurd (z refl);
+              layout = measuredLaid (t .blank) j 0;
+              completes = simp append-assoc (ap (λ l. spaces (t .blank) ++ (measuredName ++ l)) makes);
+              known = omega arith;
+              small = λ z. absurd (omega arith);
+            }
+
+        type-ok : (p′ e′ : ℕ) → Standing s e (Run p′ e′) → (c : ℕ) → named (take (e′ - p′) (drop p′ s)) ≡ aType c
+            → NodeSpelt (suc d) at n (leaf (record { code = c; measured = true })) e′ (n + 1)
+        unfolding laid treeOf nodes levels Known
+        type-ok p′ e′ v c h = go (v .blank) (v .place-is) (v .text)
+          where
+            go : (k : ℕ) → p′ ≡ e + k → drop e s ≡ spaces k ++ drop p′ s
+                → NodeSpelt (suc d) at n (leaf (record { code = c; measured = true })) e′ (n + 1)
+            go zero q x = absurd (runs-apart s p e p′ e′ (t .kind) (v .kind) (omega arith))
+            go (suc j) q x =
+                let w = named-type (take (e′ - p′) (drop p′ s)) c h in
+                record {
+                  layout = measuredLaid (t .blank) j c;
+                  tree-is = refl;
+                  text = run-text measuredName is
+                      ∙ ap (λ l. spaces (t .blank) ++ (measuredName ++ l))
+                      (x ∙ ap (λ l. spaces (suc j) ++ l) (v .kind .text ∙ ap (λ l. l ++ drop e′ s) (w .1)))
+                      ∙ simp append-assoc;
+                  known = omega (arith, w .0);
+                  low = omega arith;
+                  nodes-is = refl;
+                  few = omega arith;
+                  later = omega (arith, t .place-is, t .kind .some, v .kind .some);
+                  first = omega (arith, ap place (t .is), t .kind .some, v .kind .some);
+                  within = v .kind .within;
+                }
+
+        measured-ok : (u : Token) → Standing s e u
+            → NodeOk (suc d) at n (onRun u (λ p′ e′. typeAt named s p′ e′ n (named (take (e′ - p′) (drop p′ s)))))
+        unfolding typeAt
+        measured-ok (Open p′) v = no-type (Open p′) v
+        measured-ok (Close p′) v = no-type (Close p′) v
+        measured-ok (Comma p′) v = no-type (Comma p′) v
+        measured-ok (End p′) v = no-type (End p′) v
+        measured-ok (Run p′ e′) v = go (named (take (e′ - p′) (drop p′ s))) refl
+          where
+            go : (w : Named) → named (take (e′ - p′) (drop p′ s)) ≡ w → NodeOk (suc d) at n (typeAt named s p′ e′ n w)
+            go (aType c) h = type-ok p′ e′ v c h
+            go (aFunction f) h = no-type (Run p′ e′) v
+            go unknown h = no-type (Run p′ e′) v
 
       -- a function's name
       module _ (f : ℕ) (h : named run ≡ aFunction f) where
@@ -371,11 +438,21 @@ module _ (s : List ℕ) where
         brackets-ok (Run b b′) v = no-bracket (Run b b′) v
         brackets-ok (End b) v = no-bracket (End b) v
 
-      word-ok : (w : Named) → named run ≡ w → NodeOk (suc d) at n (wordAt named s node p e n w)
+      word-ok : (run ≡ measuredName → ⊥) → (w : Named) → named run ≡ w → NodeOk (suc d) at n (wordAt named s node p e n w)
       unfolding wordAt bracketsAt
-      word-ok (aType c) h = leaf-ok c h
-      word-ok (aFunction f) h = brackets-ok f h (next s e) (standing s e)
-      word-ok unknown h = strange-fault h
+      word-ok other (aType c) h = leaf-ok c h
+      word-ok other (aFunction f) h = brackets-ok f h (next s e) (standing s e)
+      word-ok other unknown h = strange-fault h other
+
+      run-ok : NodeOk (suc d) at n (worded s node p e n run)
+      unfolding measuredAt
+      run-ok = go (same run measuredName) refl
+        where
+          go : (b : Bool) → same run measuredName ≡ b
+              → NodeOk (suc d) at n (choose b (measuredAt named s e n) (wordAt named s node p e n (named run)))
+          go true h = measured-ok (same-is run measuredName h) (next s e) (standing s e)
+          go false h =
+              word-ok (λ is. clash (sym h ∙ ap (λ w. same w measuredName) is ∙ same-self measuredName)) (named run) refl
 
   -- a token that begins no node, and a run past the limits
   module _ (d at n : ℕ) (h : at ≤ length s) where
@@ -414,7 +491,7 @@ module _ (s : List ℕ) where
     }
 
   pub node-ok : (d at n : ℕ) → at ≤ length s → NodeOk d at n (nodeAt named s d at n)
-  unfolding nodeAt
+  unfolding nodeAt runNode
   node-ok zero at n h = go (next s at) (standing s at)
     where
       go : (t : Token) → Standing s at t → NodeOk 0 at n (onRun t (λ p e. refused 9 p))
@@ -427,13 +504,12 @@ module _ (s : List ℕ) where
     where
       run : ((at n : ℕ) → at ≤ length s → NodeOk d at n (nodeAt named s d at n)) → (p e : ℕ) → Standing s at (Run p e) → (b : Bool)
           → ltb n mostNodes ≡ b
-          → NodeOk (suc d) at n (choose b (wordAt named s (nodeAt named s d) p e n (named (take (e - p) (drop p s)))) (refused 9 p))
-      run below p e t true few = word-ok d (nodeAt named s d) below at n p e t (ltb-true n mostNodes few) (named (take (e - p) (drop p s))) refl
+          → NodeOk (suc d) at n (choose b (runNode named s (nodeAt named s d) p e n) (refused 9 p))
+      run below p e t true few = run-ok d (nodeAt named s d) below at n p e t (ltb-true n mostNodes few)
       run below p e t false few = limit-fault (suc d) at n h p e t
 
       go : ((at n : ℕ) → at ≤ length s → NodeOk d at n (nodeAt named s d at n)) → (t : Token) → Standing s at t
-          → NodeOk (suc d) at n (onRun t (λ p e. choose (ltb n mostNodes)
-          (wordAt named s (nodeAt named s d) p e n (named (take (e - p) (drop p s)))) (refused 9 p)))
+          → NodeOk (suc d) at n (onRun t (λ p e. choose (ltb n mostNodes) (runNode named s (nodeAt named s d) p e n) (refused 9 p)))
       go below (Run p e) t = run below p e t (ltb n mostNodes) refl
       go below (Open p) t = misplaced-fault (suc d) at n h (Open p) t
       go below (Close p) t = misplaced-fault (suc d) at n h (Close p) t

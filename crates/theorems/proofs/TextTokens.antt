@@ -1,5 +1,5 @@
 -- What stands in a text at a token, and which token stands where the bytes are known. Assumes nothing.
-use mathlib.Core.Path.{_≡_, refl, sym, ap, ap₂, _∙_}
+use mathlib.Core.Path.{_≡_, refl, sym, ap, ap₂, _∙_, subst}
 use mathlib.Core.Bool.{Bool, true, false}
 use mathlib.Core.List.{List, [], _∷_, _++_}
 use Prim.Native.Nat.{ℕ, zero, suc, _+_, _-_, _≤_, _<_}
@@ -72,15 +72,24 @@ extent-within (b ∷ l) = go (separates b) (extent-within l)
     go true h = omega arith
     go false h = omega arith
 
--- a word has no byte that separates
-abbrev pub clean : List ℕ → Bool
-clean [] = true
-clean (b ∷ s) = choose (separates b) false (clean s)
-
 -- what ends a run: nothing, or a byte that separates
 abbrev pub Ends : List ℕ → Type 0
 Ends [] = Unit
 Ends (b ∷ r) = separates b ≡ true
+
+extent-ends : (l : List ℕ) → Ends (drop (extent l) l)
+unfolding extent
+extent-ends [] = tt
+extent-ends (b ∷ l) = go (separates b) refl (extent-ends l)
+  where
+    go : (t : Bool) → separates b ≡ t → Ends (drop (extent l) l) → Ends (drop (choose t 0 (suc (extent l))) (b ∷ l))
+    go true e r = e
+    go false e r = r
+
+-- a word has no byte that separates
+abbrev pub clean : List ℕ → Bool
+clean [] = true
+clean (b ∷ s) = choose (separates b) false (clean s)
 
 extent-of : (w r : List ℕ) → clean w ≡ true → Ends r → extent (w ++ r) ≡ length w
 unfolding extent
@@ -198,10 +207,19 @@ pub record SignHere (s : List ℕ) (b p : ℕ) : Type 0 where
   pub here : p < length s
   pub text : drop p s ≡ b ∷ drop (p + 1) s
 
+-- a run; it does not begin with a byte that separates, and ends at one or at the text's end
 pub record RunHere (s : List ℕ) (p e : ℕ) : Type 0 where
   pub some : p < e
   pub within : e ≤ length s
   pub text : drop p s ≡ take (e - p) (drop p s) ++ drop e s
+  pub starts-so : separates (getD s p 0) ≡ false
+  pub ends-so : Ends (drop e s)
+
+-- so no run stands right behind another
+pub runs-apart : (s : List ℕ) (p e q f : ℕ) → RunHere s p e → RunHere s q f → q ≡ e → ⊥
+runs-apart s p e q f x y h =
+    let there : drop q s ≡ getD s q 0 ∷ drop (q + 1) s = head-at s q (q + 1) (omega (arith, y .some, y .within)) refl in
+    clash (sym (y .starts-so) ∙ subst Ends (ap (λ j. drop j s) (sym h) ∙ there) (x .ends-so))
 
 abbrev pub Kind : List ℕ → Token → Type 0
 Kind s (Open p) = SignHere s openByte p
@@ -239,6 +257,8 @@ kind-of s p none = ends (leb (length s) p) refl
           within = omega (arith, extent-within (drop p s), length-drop p s);
           text = sym (take-append-drop (extent (drop p s)) (drop p s))
               ∙ ap₂ _++_ (ap (λ j. take j (drop p s)) (sym n)) (drop-drop (extent (drop p s)) p s);
+          starts-so = x;
+          ends-so = subst Ends (drop-drop (extent (drop p s)) p s) (extent-ends (drop p s));
         }
 
     signs : p < length s → (o c m : Bool) → eqb (getD s p 0) openByte ≡ o → eqb (getD s p 0) closeByte ≡ c → eqb (getD s p 0) commaByte ≡ m

@@ -1,23 +1,26 @@
--- What is written is a layout of its tree, and short. Assumes nothing.
+-- What is written is a layout of its tree. Assumes nothing.
 use mathlib.Core.Path.{_≡_, refl, sym, ap₂, _∙_}
+use mathlib.Core.Bool.{Bool, true, false}
 use mathlib.Core.List.{List, _∷_, _++_, append-nil}
-use Prim.Native.Nat.{ℕ, _+_, _*_, _≤_}
+use Prim.Native.Nat.{ℕ}
 use native.Mathlib.Omega.{arith}
-use lib.ListN.{length, length-append}
 use Rattle.functions.specs.Functions.{functionCount}
 use Rattle.names.specs.Names.{typeName, functionName}
-use Rattle.expressions.specs.Tree.{Tree, Trees, leaf, call, none, more, nodes, nodesAll}
-use Rattle.expressions.specs.Known.{Known, KnownAll}
-use Rattle.expressions.specs.Limits.{WellFormed}
+use Rattle.expressions.specs.Tree.{Tree, Trees, leaf, call, none, more}
+use Rattle.expressions.specs.Limits.{Within}
 use Rattle.text.specs.Tokens.{openByte, commaByte}
-use Rattle.text.specs.Grammar.{spaces, Layout, Others, leafLaid, emptyLaid, callLaid, closeLaid, commaLaid, laid, laidOthers, treeOf, treesOf, Spells}
-use Rattle.text.specs.Writing.{textWith, insideWith, othersWith, textOf}
-use Rattle.theorems.proofs.TextWords.{type-short, function-short}
+use Rattle.text.specs.Grammar.{spaces, Layout, Others, leafLaid, measuredLaid, emptyLaid, callLaid, closeLaid, commaLaid, laid, laidOthers, treeOf, treesOf, Spells}
+use Rattle.text.specs.Writing.{leafText, textWith, insideWith, othersWith, textOf}
+use Rattle.text.proofs.SpeltTexts.{text-short}
 
--- the writer's layout: a space in front of each argument but the first
+-- the writer's layout: a space in front of each argument but the first, and one between `measured` and its type
+abbrev neatLeaf : ℕ → Bool → ℕ → Layout
+neatLeaf k false t = leafLaid k t
+neatLeaf k true t = measuredLaid k 0 t
+
 unfoldable mutual
   neat : ℕ → Tree → Layout
-  neat k (leaf l) = leafLaid k (l .type)
+  neat k (leaf l) = neatLeaf k (l .measured) (l .code)
   neat k (call f es) = neatCall k f es
 
   neatCall : ℕ → ℕ → Trees → Layout
@@ -28,11 +31,16 @@ unfoldable mutual
   neatOthers none = closeLaid 0
   neatOthers (more e es) = commaLaid 0 (neat 1 e) (neatOthers es)
 
+leaf-tree : (k : ℕ) (measured : Bool) (t : ℕ) → treeOf (neatLeaf k measured t) ≡ leaf (record { code = t; measured = measured })
+unfolding treeOf
+leaf-tree k false t = refl
+leaf-tree k true t = refl
+
 mutual
   unfolding neat treeOf
 
   neat-tree : (k : ℕ) (e : Tree) → treeOf (neat k e) ≡ e
-  neat-tree k (leaf l) = refl
+  neat-tree k (leaf l) = leaf-tree k (l .measured) (l .code)
   neat-tree k (call f es) = neat-call k f es
 
   neat-call : (k f : ℕ) (es : Trees) → treeOf (neatCall k f es) ≡ call f es
@@ -49,11 +57,16 @@ inside es = insideWith typeName functionName es
 abbrev others : Trees → List ℕ
 others es = othersWith typeName functionName es
 
+leaf-text : (k : ℕ) (measured : Bool) (t : ℕ) → laid (neatLeaf k measured t) ≡ spaces k ++ leafText measured (typeName t)
+unfolding laid
+leaf-text k false t = refl
+leaf-text k true t = refl
+
 mutual
   unfolding neat laid textWith
 
   neat-text : (k : ℕ) (e : Tree) → laid (neat k e) ≡ spaces k ++ textOf e
-  neat-text k (leaf l) = refl
+  neat-text k (leaf l) = leaf-text k (l .measured) (l .code)
   neat-text k (call f es) = neat-inside k f es
 
   neat-inside : (k f : ℕ) (es : Trees) → laid (neatCall k f es) ≡ spaces k ++ (functionName f ++ openByte ∷ inside es)
@@ -64,29 +77,13 @@ mutual
   neat-others none = refl
   neat-others (more e es) = ap₂ (λ x q. commaByte ∷ (x ++ q)) (neat-text 1 e) (neat-others es)
 
--- a node takes at most 24 bytes
-mutual
-  unfolding textWith nodes Known
-
-  pub text-short : (e : Tree) → Known functionCount e → length (textOf e) + 2 ≤ 24 * nodes e
-  text-short (leaf l) k = omega (arith, type-short (l .type) (omega arith))
-  text-short (call f es) k = omega (arith, function-short f (k .0), length-append (functionName f) (openByte ∷ inside es), inside-short es (k .1))
-
-  inside-short : (es : Trees) → KnownAll functionCount es → length (inside es) ≤ 24 * nodesAll es + 1
-  inside-short none k = omega arith
-  inside-short (more e es) k = omega (arith, length-append (textOf e) (others es), text-short e (k .0), others-short es (k .1))
-
-  others-short : (es : Trees) → KnownAll functionCount es → length (others es) ≤ 24 * nodesAll es + 1
-  others-short none k = omega arith
-  others-short (more e es) k = omega (arith, length-append (textOf e) (others es), text-short e (k .0), others-short es (k .1))
-
 -- so it is spelled
-pub written-spells : (e : Tree) → WellFormed functionCount e → Spells (textOf e) e
-written-spells e formed = record {
+pub written-spells : (e : Tree) → Within functionCount e → Spells (textOf e) e
+written-spells e within = record {
   layout = neat 0 e;
   behind = 0;
   tree-is = neat-tree 0 e;
   text-is = sym (neat-text 0 e) ∙ sym (append-nil (laid (neat 0 e)));
-  well-formed = formed;
-  short = omega (arith, text-short e (formed .known), formed .few);
+  within = within;
+  short = omega (arith, text-short e (within .known), within .few);
 }

@@ -12,6 +12,7 @@ use Rattle.scalars.specs.Mask.{choose}
 use Rattle.functions.specs.Functions.{functionCount}
 use Rattle.names.specs.Names.{named}
 use Rattle.expressions.specs.Tree.{Tree, bytesOf, deepest}
+use Rattle.expressions.specs.Limits.{Measurable}
 use Rattle.expressions.specs.Reading.{Reading, done, refused, Expression, read, refusedAs, expressionOf}
 use Rattle.text.specs.declared.token.Token.{Token}
 use Rattle.text.specs.declared.token.Token.the-variants.{Open, Close, Comma, Run, End}
@@ -19,8 +20,9 @@ use Rattle.text.specs.Tokens.{next}
 use Rattle.text.specs.Grammar.{mostBytes, Spells}
 use Rattle.text.specs.Reading.{nodeAt, atEnd, whole, readingOf, reading}
 use Rattle.text.specs.Writing.{textOf}
+use Rattle.theorems.specs.FirstPass.{AbstractAt}
 use Rattle.theorems.specs.Texts.{Refused, Theorem}
-use Rattle.theorems.proofs.AcceptsExactly.{accepts-only, accepts-all}
+use Rattle.theorems.proofs.AcceptsExactly.{accepts-only, measurable-accepted, abstract-refused}
 use Rattle.theorems.proofs.TextTokens.{Standing, standing}
 use Rattle.theorems.proofs.TextSound.{Why, limit, strange, wrong, NodeOk, node-ok}
 use Rattle.theorems.proofs.TextWritten.{written-spells}
@@ -31,11 +33,15 @@ there-and-back : (b : List ℕ) (e : Tree) → expressionOf functionCount b ≡ 
     → (reading (textOf e) ≡ read e) × (bytesOf e ≡ b) × (length (textOf e) ≤ mostBytes)
 there-and-back b e h =
     let x = accepts-only functionCount b e h in
-    let y = written-spells e (x .1) in
+    let y = written-spells e (x .1 .within) in
     (read-if (textOf e) e y, sym (x .0), y .short)
 
-passes-first : (s : List ℕ) (e : Tree) → reading s ≡ read e → expressionOf functionCount (bytesOf e) ≡ read e
-passes-first s e h = accepts-all functionCount (bytesOf e) e refl (read-only-if s e h .well-formed)
+passes-first : (s : List ℕ) (e : Tree) → reading s ≡ read e → Measurable e → expressionOf functionCount (bytesOf e) ≡ read e
+passes-first s e h = measurable-accepted functionCount e (read-only-if s e h .within)
+
+stopped-first : (s : List ℕ) (e : Tree) → reading s ≡ read e → (Measurable e → ⊥)
+    → (p : ℕ) × AbstractAt e 0 p × (expressionOf functionCount (bytesOf e) ≡ refusedAs 17 p)
+stopped-first s e h = abstract-refused functionCount e (read-only-if s e h .within)
 
 -- ---- refusals
 
@@ -50,7 +56,7 @@ RefusalOk s (refusedAs n p) = Within s n p
 
 which : (s : List ℕ) (n p : ℕ) → Why s p n → (n ≡ 9) ⊎ (n ≡ 14) ⊎ (n ≡ 15)
 which s n p (limit e h) = inl refl
-which s n p (strange e h u) = inr (inl refl)
+which s n p (strange e h u other) = inr (inl refl)
 which s n p wrong = inr (inr refl)
 
 module _ (s : List ℕ) (h : length s ≤ mostBytes) where
@@ -93,6 +99,7 @@ texts = record {
   oneTree = one-spelled;
   thereAndBack = there-and-back;
   passes = passes-first;
+  stopped = stopped-first;
   refused = is-refused;
   tooLong = too-long;
   firstFault = first-fault;

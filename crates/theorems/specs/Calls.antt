@@ -1,10 +1,14 @@
--- Demand 2, of single calls, over the contracts; Demand2 says it over the definitions. Take any function number f, any operands ts, the
--- switch on or off, and whatever answers the contracts of `call_of` and `survivors_of` permit of them.
+-- Demand 2, of single calls, over the contracts; Demand2 says it over the definitions. Take any function number f, any types ts and marks
+-- ms beside them, the switch on or off, and whatever answers the contracts of `call_of` and `survivors_of` permit of them.
 --
--- * 7 at 0 exactly when there is no function f; 7 at 1 + i exactly when there is, and operand i is the first that is no type.
--- A function has a set. Of a function and types, a call answers what the operations on the function's set answer, of either kind:
+-- * 7 at 0 exactly when there is no function f; 8 at the shorter length exactly when there is, and not a mark for each type.
+-- * 7 or 17 at 1 + i exactly when operand i is the first that is not in order: no type or no mark, or measured and abstract.
+-- A call is measured if any operand is, and then takes the concrete-only step as if the switch were on; its result is then measured, which
+-- the mark behind the chosen rule says. But for that mark, of a function and operands in order, a call answers what the operations on the
+-- function's set answer, of either kind:
 -- * 5 exactly when the number of operands is below the least count or above the most. Otherwise the set is asked for `arg` by the shape
---   and then by the number of each operand in turn, and then for `concrete_only` if the switch is on.
+--   and then by the number of each operand in turn, and then for `concrete_only` if the switch is on or the call
+--   measured.
 -- * 6 at operand k exactly when `is_empty` says no before the step by its shape and yes with it; 16 exactly when it says no before the
 --   step by its number and yes with it.
 -- * 1 exactly when `is_empty` says no after the last operand, and yes after `concrete_only`.
@@ -18,10 +22,11 @@ use mathlib.Core.Path.{_≡_}
 use mathlib.Core.Logic.{_↔_}
 use mathlib.Core.Bool.{Bool, true, false}
 use mathlib.Core.List.{List, [], _∷_, _++_}
-use Prim.Native.Nat.{ℕ, suc, _+_, _≤_, _<_}
+use Prim.Native.Nat.{ℕ, suc, _+_, _≤_, _<_, min}
 use lib.ListN.{length, getD, take}
 use Rattle.scalars.specs.Mask.{select}
 use Rattle.scalars.specs.Paper.{Paper, accepted, refusal}
+use Rattle.types.specs.Operand.{anyMark, concreteOnly}
 use Rattle.rules.specs.declared.rule.Part.{Part}
 use Rattle.rules.specs.declared.rule.Part.the-variants.{Shape, Number}
 use Rattle.rules.specs.declared.rule.Keep.{Keep}
@@ -31,17 +36,18 @@ use Rattle.functions.specs.declared.listed_rules.ListFunction.{ListFunction}
 use Rattle.functions.specs.Functions.{functionCount, listingOf}
 use Rattle.functions.specs.declared.mathfunction.FunctionSet.the-variants as function
 use Rattle.lists.specs.Entry.{number}
-use Rattle.lists.specs.ChosenPaper.{chosenPaper, noChoice}
+use Rattle.lists.specs.ChosenPaper.{noChoice}
 use Rattle.lists.specs.declared.list.List as declared
-use Rattle.lists.specs.declared.list.ChosenAnswer.{ChosenAnswer}
+use Rattle.calls.specs.declared.outcome.CallAnswer.{CallAnswer}
 use Rattle.calls.specs.Choice.{Choice, first}
 use Rattle.theorems.specs.Taking.{Survive, Says}
-use Rattle.calls.specs.Call.{answered}
+use Rattle.calls.specs.Call.{answered, withMark}
+use Rattle.calls.specs.CallPaper.{callPaper}
 use Rattle.calls.specs.SurvivorsPaper.{survivorsPaper}
 use Rattle.functions.proofs as functions
 use Rattle.calls.proofs as single
 use Rattle.theorems.specs.Contracts.{Promises}
-use Rattle.theorems.specs.Known.{AllKnown, FirstUnknown}
+use Rattle.theorems.specs.InOrder.{FirstWrong, AllRight}
 use Rattle.theorems.specs.Operations.{Set, regular, list, Empty, Least, Most, Preferred, After}
 
 -- the set of a function: what `function_set` answers; where that names a List, what `full_list` answers
@@ -96,22 +102,31 @@ pub record BySet (switch : Bool) (s : Set) (ts : List ℕ) (p : Paper) : Type 0 
   pub dropped : p ≡ refusal 1 0 noChoice ↔ (Fits s (length ts) × Dropped switch s ts)
   pub rule : (vs : List ℕ) → AnswersRule s p vs ↔ (Fits s (length ts) × After Preferred (stepsFrom switch 0 ts) s (accepted vs))
 
-pub record Call (switch : Bool) (f : ℕ) (ts : List ℕ) (p : Paper) : Type 0 where
+-- a call of these marks asks for the concrete-only step
+abbrev asks : Bool → List ℕ → Bool
+asks switch ms = concreteOnly switch (anyMark ms)
+
+pub record Call (switch : Bool) (f : ℕ) (ts ms : List ℕ) (p : Paper) : Type 0 where
   pub unknownFunction : p ≡ refusal 7 0 noChoice ↔ functionCount ≤ f
-  pub unknownType : (i : ℕ) → p ≡ refusal 7 (1 + i) noChoice ↔ ((f < functionCount) × FirstUnknown ts i)
+  pub unequal : (i : ℕ) → p ≡ refusal 8 i noChoice
+      ↔ ((f < functionCount) × (length ts ≡ length ms → ⊥) × (i ≡ min (length ts) (length ms)))
+  pub unknownOperand : (i : ℕ) → p ≡ refusal 7 (1 + i) noChoice ↔ ((f < functionCount) × FirstWrong ts ms 7 i)
+  pub abstractOperand : (i : ℕ) → p ≡ refusal 17 (1 + i) noChoice ↔ ((f < functionCount) × FirstWrong ts ms 17 i)
   pub hasSet : f < functionCount → (s : Set) × Has f s
-  pub bySet : f < functionCount → AllKnown ts → (s : Set) → Has f s → BySet switch s ts p
-  pub byListing : f < functionCount → AllKnown ts → (c : Choice) × Says switch (listingOf f) ts c × (p ≡ answered c)
+  pub bySet : f < functionCount → AllRight ts ms → (s : Set) → Has f s
+      → (q : Paper) × BySet (asks switch ms) s ts q × (p ≡ withMark (anyMark ms) q)
+  pub byListing : f < functionCount → AllRight ts ms
+      → (c : Choice) × Says (asks switch ms) (listingOf f) ts c × (p ≡ withMark (anyMark ms) (answered c))
 
 -- of the answers p of `call_of` and q of `survivors_of` to the same arguments
-pub record Survivors (switch : Bool) (f : ℕ) (ts : List ℕ) (p q : Paper) : Type 0 where
+pub record Survivors (switch : Bool) (f : ℕ) (ts ms : List ℕ) (p q : Paper) : Type 0 where
   pub refusedAlike : (n i : ℕ) → q ≡ refusal n i (0 ∷ []) ↔ p ≡ refusal n i noChoice
-  pub survive : (m : ℕ) → q ≡ accepted (m ∷ []) → Survive switch (listingOf f) ts m
-  pub preferred : (m : ℕ) → q ≡ accepted (m ∷ []) → p ≡ answered (first (select (number 0 (listingOf f)) m))
+  pub survive : (m : ℕ) → q ≡ accepted (m ∷ []) → Survive (asks switch ms) (listingOf f) ts m
+  pub preferred : (m : ℕ) → q ≡ accepted (m ∷ []) → p ≡ withMark (anyMark ms) (answered (first (select (number 0 (listingOf f)) m)))
 
 pub record Theorem : Type 0 where
   pub calls : Promises single.call_of.ended single.call_of.Reads.Post
-      (λ κs a r s. Call (a .1 .1 .0) (a .0) (a .1 .0 .now) (chosenPaper r))
+      (λ κs a r s. Call (a .1 .1 .1 .0) (a .0) (a .1 .0 .now) (a .1 .1 .0 .now) (callPaper r))
   pub survivors : Promises single.survivors_of.ended single.survivors_of.Reads.Post
-      (λ κs a q s. (r : ChosenAnswer) → single.call_of.Reads.Post κs a r s
-      → Survivors (a .1 .1 .0) (a .0) (a .1 .0 .now) (chosenPaper r) (survivorsPaper q))
+      (λ κs a q s. (r : CallAnswer) → single.call_of.Reads.Post κs a r s
+      → Survivors (a .1 .1 .1 .0) (a .0) (a .1 .0 .now) (a .1 .1 .0 .now) (callPaper r) (survivorsPaper q))

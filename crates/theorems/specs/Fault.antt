@@ -4,6 +4,8 @@ use mathlib.Core.Bool.{Bool}
 use mathlib.Core.List.{List}
 use Prim.Native.Nat.{ℕ}
 use lib.ListN.{getD}
+use Rattle.types.specs.Operand.{codes, anyMeasured, concreteOnly}
+use Rattle.types.specs.declared.operand.Operand.{Operand}
 use Rattle.rules.specs.Signature.{Signature}
 use Rattle.rules.specs.declared.rule.Part.the-variants.{Shape, Number}
 use Rattle.calls.specs.Choice.{wrongCount, noneAfter, noneConcrete}
@@ -27,10 +29,10 @@ module _ (listingOf : ℕ → List Signature) (switch : Bool) where
   mutual
     pub data Fails : Tree → ℕ → ℕ → ℕ → Type 0 where
       failsInside : {f at n p : ℕ} {es : Trees} → FailsAmong es (inside at) n p → Fails (call f es) at n p
-      failsHere : {f at n p : ℕ} {es : Trees} {ts : List ℕ} {ls : List Line} → GiveAll listingOf switch es ts ls
-          → Fault switch (listingOf f) ts at (starts es (inside at)) n p → Fails (call f es) at n p
+      failsHere : {f at n p : ℕ} {es : Trees} {os : List Operand} {ls : List Line} → GiveAll listingOf switch es os ls
+          → Fault (concreteOnly switch (anyMeasured os)) (listingOf f) (codes os) at (starts es (inside at)) n p → Fails (call f es) at n p
 
     pub data FailsAmong : Trees → ℕ → ℕ → ℕ → Type 0 where
       failsFirst : {e : Tree} {es : Trees} {at n p : ℕ} → Fails e at n p → FailsAmong (more e es) at n p
-      failsLater : {e : Tree} {es : Trees} {at t n p : ℕ} {ls : List Line} → Gives listingOf switch e t ls
+      failsLater : {e : Tree} {es : Trees} {at n p : ℕ} {o : Operand} {ls : List Line} → Gives listingOf switch e o ls
           → FailsAmong es (behind e at) n p → FailsAmong (more e es) at n p

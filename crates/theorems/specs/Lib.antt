@@ -1,9 +1,10 @@
 -- All that is claimed: the demands as theorems, each stated in English at the head of its file. Of the public functions, said of every answer
 -- that their contracts permit: OneAnswer, Singleton, Combination, Consensus, BothSteps and Agreement over Operations, Calls (Demand 2), Expressions (Demand 3),
--- TextFunctions. Of the definitions that the contracts cite, over any database of rules: Expands, Steps, Demand2, FirstPass, Demand3, Readings;
--- of texts, Texts and TextReadings. The others are words that statements share.
+-- TextFunctions. Of the definitions that the contracts cite, over any database of rules: Expands, Steps, Demand2, FirstPass, Demand3, Measured,
+-- Readings; of texts, Texts and TextReadings. The others are words that statements share.
 pub mod Contracts
 pub mod Known
+pub mod InOrder
 pub mod OneAnswer
 pub mod Singleton
 pub mod Combination
@@ -21,6 +22,7 @@ pub mod Meaning
 pub mod Fault
 pub mod Demand3
 pub mod Expressions
+pub mod Measured
 pub mod Readings
 pub mod Texts
 pub mod TextFunctions

@@ -9,6 +9,7 @@ use Rattle.scalars.proofs.refusal as refusal
 use Rattle.scalars.proofs.scalar_set as scalar_set
 use Rattle.types.proofs as types
 use Rattle.types.proofs.constructor_set as constructor_set
+use Rattle.types.proofs.operand as operand
 use Rattle.expressions.proofs as expressions
 use Rattle.rules.proofs as rules
 use Rattle.rules.proofs.rule as rule
@@ -65,9 +66,13 @@ pub record EachFunction : Type 0 where
   pub «code_of» : OneAnswer types.code_of.ended types.code_of.Reads.Post
   pub «leaf_scalar» : OneAnswer types.leaf_scalar.ended types.leaf_scalar.Reads.Post
   pub «is_abstract» : OneAnswer types.is_abstract.ended types.is_abstract.Reads.Post
-  pub «first_unknown» : OneAnswer types.first_unknown.ended types.first_unknown.Reads.Post
   -- expressions
   pub «read_expression» : OneAnswer expressions.read_expression.ended expressions.read_expression.Reads.Post
+  pub «Operand::of» : OneAnswer operand.Operand.of.ended operand.Operand.of.Reads.Post
+  pub «Operand::mark» : OneAnswer operand.Operand.mark.ended operand.Operand.mark.Reads.Post
+  pub «Operand::is_measured_abstract» : OneAnswer operand.Operand.is_measured_abstract.ended operand.Operand.is_measured_abstract.Reads.Post
+  pub «any_measured» : OneAnswer types.any_measured.ended types.any_measured.Reads.Post
+  pub «concrete_only» : OneAnswer types.concrete_only.ended types.concrete_only.Reads.Post
   -- rules
   pub «no_rules» : OneAnswer rules.no_rules.ended rules.no_rules.Reads.Post
   pub «no_codes» : OneAnswer rules.no_codes.ended rules.no_codes.Reads.Post
@@ -146,6 +151,8 @@ pub record EachFunction : Type 0 where
       → names.spelling.Reads.Post κs a x (atExit names.spelling.ended κs a v)
       → names.spelling.Reads.Post κs a y (atExit names.spelling.ended κs a w) → (x .now ≡ y .now) × (v ≡ w)
   pub «word_of» : OneAnswer names.word_of.ended names.word_of.Reads.Post
+  pub «measured_name» : OneAnswer names.measured_name.ended names.measured_name.Reads.Post
+  pub «is_measured» : OneAnswer names.is_measured.ended names.is_measured.Reads.Post
   -- text
   pub «read_text» : OneAnswer text.read_text.ended text.read_text.Reads.Post
   pub «write_text» : OneAnswer text.write_text.ended text.write_text.Reads.Post
@@ -165,6 +172,7 @@ pub record EachFunction : Type 0 where
   pub «type_expression» : OneAnswer worksheet.type_expression.ended worksheet.type_expression.Reads.Post
   -- c_answers
   pub «chosen_for_c» : OneAnswer c_answers.chosen_for_c.ended c_answers.chosen_for_c.Reads.Post
+  pub «call_for_c» : OneAnswer c_answers.call_for_c.ended c_answers.call_for_c.Reads.Post
   pub «rule_for_c» : OneAnswer c_answers.rule_for_c.ended c_answers.rule_for_c.Reads.Post
   pub «regular_for_c» : OneAnswer c_answers.regular_for_c.ended c_answers.regular_for_c.Reads.Post
   pub «consensus_for_c» : OneAnswer c_answers.consensus_for_c.ended c_answers.consensus_for_c.Reads.Post

@@ -8,7 +8,7 @@
 use mathlib.Core.Bool.{false}
 use mathlib.Core.List.{List, [], _∷_, map}
 use Prim.Native.Nat.{ℕ, zero, suc, _-_, _^_}
-use lib.ListN.{replicate}
+use lib.ListN.{length, replicate}
 use Rattle.scalars.specs.Mask.{bits, upTo, headOr}
 use Rattle.scalars.specs.OneBits.{stepOf}
 use Rattle.scalars.specs.Paper.{Paper, number, place, values, value}
@@ -26,13 +26,13 @@ use Rattle.worksheet.specs.Typing.{typing, answerOf}
 abbrev row : List ℕ → Paper → List ℕ
 row is p = number p ∷ place p ∷ map (λ i. value i p) is
 
--- of a call the rule's index and its result; the concrete-only switch is off
+-- of a call the rule's index and its result; the concrete-only switch is off, and the operands are constant
 abbrev called : ℕ → List ℕ → List ℕ
-called f ts = row (0 ∷ 6 ∷ []) (callOf functionCount listingOf false f ts)
+called f ts = row (0 ∷ 6 ∷ []) (callOf functionCount listingOf false f ts (replicate (length ts) 0))
 
 -- the mask of the survivors
 abbrev surviving : ℕ → List ℕ → List ℕ
-surviving f ts = row (0 ∷ []) (survivorsOfCall functionCount listingOf false f ts)
+surviving f ts = row (0 ∷ []) (survivorsOfCall functionCount listingOf false f ts (replicate (length ts) 0))
 
 -- the scalar, and who gave it
 abbrev consensus : Base → List ℕ → List ℕ

@@ -3,9 +3,10 @@
 --
 -- * `read_text` accepts with n exactly when s spells a tree whose n bytes d has room for. Then d′ begins with these bytes, and behind them it
 --   is as d was. Where d has too little room, the answer is refusal 10, at the bytes needed; 192 bytes always suffice. A text that spells no
---   tree is refused by its first fault, with 9, 14 or 15, at a place within it; one that is too long with 15, at 4,096. On every refusal d′ is d.
+--   tree is refused by its first fault, with 9, 14 or 15, at a place within it; one that is too long with 15, at 4,096. There is no other
+--   refusal: whether a measured leaf is abstract, 17, is asked of the bytes. On every refusal d′ is d.
 -- * `write_text` accepts with n exactly when the first pass reads from b a tree whose text of n bytes d has room for. Then d′ begins with the
---   text, and behind it it is as d was. Where d has too little room, the answer is refusal 10, at the bytes needed; 1,536 bytes always
+--   text, and behind it it is as d was. Where d has too little room, the answer is refusal 10, at the bytes needed; 2,112 bytes always
 --   suffice, and no text is longer than the 4,096 that are read. What the first pass refuses is refused with the same number and place. On
 --   every refusal d′ is d.
 -- * There and back. Where `write_text` has accepted b, any answer that the promise of `read_text` permits for the text in d′ and a buffer of
@@ -42,11 +43,12 @@ pub record Reads (s d : List ℕ) (r : TextAnswer) (d′ : List ℕ) : Type 0 wh
   pub faulty : length s ≤ mostBytes → ((e : Tree) → Spells s e → ⊥)
       → (n : ℕ) × (p : ℕ) × (textPaper r ≡ paper.refusal n p (unused ∷ [])) × ((n ≡ 9) ⊎ (n ≡ 14) ⊎ (n ≡ 15)) × (p ≤ length s) × FirstFault s n p
   pub tooLong : mostBytes < length s → textPaper r ≡ paper.refusal 15 mostBytes (unused ∷ [])
+  pub numbers : (n p : ℕ) → textPaper r ≡ paper.refusal n p (unused ∷ []) → (n ≡ 9) ⊎ (n ≡ 10) ⊎ (n ≡ 14) ⊎ (n ≡ 15)
 
 -- the bytes b are written
 pub record Writes (b d : List ℕ) (r : TextAnswer) (d′ : List ℕ) : Type 0 where
   pub lends : Lends (λ e. expressionOf functionCount b ≡ read e) textOf d r d′
-  pub suffices : 24 * mostNodes ≤ length d → (e : Tree) → expressionOf functionCount b ≡ read e → length (textOf e) ≤ length d
+  pub suffices : 33 * mostNodes ≤ length d → (e : Tree) → expressionOf functionCount b ≡ read e → length (textOf e) ≤ length d
   pub within : (e : Tree) → expressionOf functionCount b ≡ read e → length (textOf e) ≤ mostBytes
   pub faulty : (n p : ℕ) → expressionOf functionCount b ≡ refusedAs n p → textPaper r ≡ paper.refusal n p (unused ∷ [])
   pub back : (n : ℕ) → textPaper r ≡ paper.accepted (n ∷ [])

@@ -1,5 +1,6 @@
 -- Readings of texts, of the very definitions that the promises of `read_text` and `write_text` cite: `asked` asks them, and `paper` is what
--- document 02, (i), says; a row for a text, and at the end one for what is written.
+-- document 02, (i) and (v), says; a row for a text, and at the end one for what is written.
+use mathlib.Core.Bool.{true, false}
 use mathlib.Core.List.{List, [], _∷_, _++_}
 use Prim.Native.Nat.{ℕ, zero, suc}
 use lib.ListN.{replicate}
@@ -15,9 +16,16 @@ abbrev pub nested : ℕ → List ℕ
 nested zero = []
 nested (suc n) = bytes "abs(" ++ nested n
 
--- call 4 of 0, 5 and 0
-abbrev clamp : Tree
-clamp = call 4 (more (leaf (record { type = 0 })) (more (leaf (record { type = 5 })) (more (leaf (record { type = 0 })) none)))
+-- leaves that are constant, and measured ones
+abbrev constant : ℕ → Tree
+constant t = leaf (record { code = t; measured = false })
+
+abbrev measured : ℕ → Tree
+measured t = leaf (record { code = t; measured = true })
+
+-- call 4 of 0, 5 and 0, the second of which is a leaf of either kind
+abbrev clamp : Tree → Tree
+clamp e = call 4 (more (constant 0) (more e (more (constant 0) none)))
 
 unfoldable pub asked : List Expression
 asked =
@@ -30,17 +38,22 @@ asked =
     ∷ reading (bytes "ABS(u32)") ∷ reading (bytes "frobnicate(u32)") ∷ reading (bytes "abs(u3)")
     ∷ reading (nested 16 ++ bytes "u32") ∷ reading (nested 16 ++ bytes "x") ∷ reading (nested 16) ∷ reading (nested 15 ++ bytes "x")
     ∷ reading (replicate 4097 spaceByte)
+    ∷ reading (bytes "clamp(abstract-int, measured  u32, abstract-int)") ∷ reading (bytes " measured f32 ") ∷ reading (bytes "measured abstract-int")
+    ∷ reading (bytes "measured") ∷ reading (bytes "abs(measured )") ∷ reading (bytes "measured(u32)") ∷ reading (bytes "measured,")
+    ∷ reading (bytes "measured measured u32") ∷ reading (bytes "measured abs(u32)") ∷ reading (bytes "measured frobnicate")
+    ∷ reading (bytes "measuredu32") ∷ reading (bytes "u32 measured")
+    ∷ reading (nested 16 ++ bytes "measured x") ∷ reading (nested 15 ++ bytes "measured x")
     ∷ []
 
 unfoldable pub paper : List Expression
 paper =
     -- spaces stand between tokens
-    read clamp
-    ∷ read clamp
+    read (clamp (constant 5))
+    ∷ read (clamp (constant 5))
     -- no node: 15 at the end
     ∷ refusedAs 15 0 ∷ refusedAs 15 2
     -- leaves 5, 69 and 156, and function 0 of nothing
-    ∷ read (leaf (record { type = 5 })) ∷ read (leaf (record { type = 69 })) ∷ read (leaf (record { type = 156 })) ∷ read (call 0 none)
+    ∷ read (constant 5) ∷ read (constant 69) ∷ read (constant 156) ∷ read (call 0 none)
     -- misplaced or missing: 15 at the token or at the end
     ∷ refusedAs 15 3 ∷ refusedAs 15 3 ∷ refusedAs 15 7 ∷ refusedAs 15 8 ∷ refusedAs 15 4
     ∷ refusedAs 15 4 ∷ refusedAs 15 4 ∷ refusedAs 15 5
@@ -50,11 +63,21 @@ paper =
     ∷ refusedAs 9 64 ∷ refusedAs 9 64 ∷ refusedAs 15 64 ∷ refusedAs 14 60
     -- too long: 15 at the limit
     ∷ refusedAs 15 4096
+    -- `measured` and a type; that the last is abstract is no matter of texts
+    ∷ read (clamp (measured 5)) ∷ read (measured 8) ∷ read (measured 0)
+    -- behind `measured` no type: 15 at the token or at the end
+    ∷ refusedAs 15 8 ∷ refusedAs 15 13 ∷ refusedAs 15 8 ∷ refusedAs 15 8
+    ∷ refusedAs 15 9 ∷ refusedAs 15 9 ∷ refusedAs 15 9
+    -- without the space it is an unknown run; misplaced as any run
+    ∷ refusedAs 14 0 ∷ refusedAs 15 4
+    -- the node begins at `measured`: 9 is there
+    ∷ refusedAs 9 64 ∷ refusedAs 15 69
     ∷ []
 
--- written with a space after each comma only
+-- written with a space after each comma and behind `measured` only
 unfoldable pub written : List (List ℕ)
-written = textOf clamp ∷ textOf (call 0 (more (call 0 none) none)) ∷ []
+written = textOf (clamp (constant 5)) ∷ textOf (clamp (measured 5)) ∷ textOf (call 0 (more (call 0 none) none)) ∷ []
 
 unfoldable pub paperText : List (List ℕ)
-paperText = bytes "clamp(abstract-int, u32, abstract-int)" ∷ bytes "abs(abs())" ∷ []
+paperText =
+    bytes "clamp(abstract-int, u32, abstract-int)" ∷ bytes "clamp(abstract-int, measured u32, abstract-int)" ∷ bytes "abs(abs())" ∷ []

@@ -1,15 +1,16 @@
 // Types the expression on standard input: prints number, place and type, and then the worksheet, a line for each four bytes. A refusal
 // prints its first line only, with type 255. The concrete-only switch is off, and the buffer always suffices.
 //
-// The expression comes in bytes, or as text, and its first byte tells which: 0 or 1 begin bytes, and so does an empty input; anything else
-// is text. Places are offsets in the text while it is read, and offsets in the bytes that it spells afterwards. What is answered depends on
-// at most the first 4,097 bytes of the input, so the program keeps the first 65,536 and reads the rest to its end without keeping it.
+// The expression comes in bytes, or as text, and its first byte tells which: 0, 1 or 2 begin bytes, and so does an empty input; anything
+// else is text. Places are offsets in the text while it is read, and offsets in the bytes that it spells afterwards. What is answered
+// depends on at most the first 4,097 bytes of the input, so the program keeps the first 65,536 and reads the rest to its end without
+// keeping it.
 
 ghost use mathlib.Core.Path.{_≡_};
 ghost use Prim.Native.Nat.{_≤_};
 ghost use lib.ListN.{length};
 ghost use Rattle.worksheet.specs.private.Sheet.{enoughBytes};
-use expressions::CALL;
+use expressions::MEASURED_LEAF;
 use libc::STDIN_FILENO;
 use libc::STDOUT_FILENO;
 use scalars::Refusal;
@@ -46,7 +47,7 @@ fn is_text(input: &[u8]) -> bool {
     if input.len() == 0 {
         return false;
     }
-    CALL < input[0]
+    MEASURED_LEAF < input[0]
 }
 
 // Reads a text into the bytes, which always suffice, and types those.
@@ -68,8 +69,8 @@ fn answer_front(bytes: &[u8], len: usize, sheet: &mut [u8])
 fn answer_bytes(input: &[u8], sheet: &mut [u8]) {
     match type_expression(input, false, sheet) {
         TypeAnswer::Refused(why) => print_refusal(why),
-        TypeAnswer::Typed { code, len } => {
-            print_answer(0, 0, code);
+        TypeAnswer::Typed { result, len } => {
+            print_answer(0, 0, result.code);
             print_sheet(sheet, len);
         }
     }

@@ -3,6 +3,7 @@ pub mod Constructors
 pub mod TypeCodes
 pub mod Sizes
 pub mod Codes
+pub mod Operands
 pub mod Conversions
 pub mod Combinations
 pub mod Agreeing

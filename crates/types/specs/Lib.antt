@@ -1,5 +1,6 @@
 -- What a reader must believe of this crate.
 pub mod Domain
+pub mod Operand
 pub mod TypeCode
 pub mod Constructor
 pub mod Conversion

@@ -127,7 +127,7 @@ pub fn is_abstract(code: u8) -> bool
 }
 
 // The index of the first code above LAST_CODE, or the number of codes.
-pub fn first_unknown(codes: &[u8]) -> usize
+pub(crate) fn first_unknown(codes: &[u8]) -> usize
     ensures { λ r. ⌜ r ≡ firstUnknown (now (codes .entry)) ⌝ }
 {
     let mut i: usize = 0;

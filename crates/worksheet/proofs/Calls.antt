@@ -8,9 +8,12 @@ use Prim.Native.Nat.{ℕ, _+_, _-_, _≤_, _<_}
 use native.Mathlib.Omega.{arith}
 use lib.ListN.{length, getD, take, drop, length-append, length-take}
 use lib.Seq.{take-add, take-at, drop-at, getD-take, getD-append-add}
+use Rattle.types.specs.Operand.{markOf, codes, marks, anyMeasured, anyMark, concreteOnly}
+use Rattle.types.specs.declared.operand.Operand.{Operand}
+use Rattle.types.proofs.Operands.{codes-length, marks-length, measured-marks}
 use Rattle.rules.specs.Rule.{argumentsOf, ruleOf}
 use Rattle.rules.specs.Signature.{Signature}
-use Rattle.calls.specs.Choice.{noneLeft, Choice, chosen, wrongCount, noneAfter, noneConcrete, resolve}
+use Rattle.calls.specs.Choice.{noneLeft, Choice, chosen, wrongCount, noneAfter, noneConcrete, resolve, resolveOf}
 use Rattle.functions.specs.Functions.{listingOf}
 use Rattle.calls.specs.Call.{answered}
 use Rattle.calls.specs.OutcomePaper.{outcomePaper}
@@ -25,11 +28,11 @@ use Rattle.scalars.specs.Paper as paper
 use Rattle.worksheet.specs.declared.sheet.Sheet.{Sheet}
 use Rattle.worksheet.specs.declared.stack.Stack.{Stack}
 use Rattle.worksheet.specs.declared.progress.Progress.{Progress}
-use Rattle.machine.specs.Line.{callLine, callMark, conversions, callLines, encode}
+use Rattle.machine.specs.Line.{callLine, callKind, conversions, callLines, encode}
 use Rattle.worksheet.specs.Typer.{conclude}
 use Rattle.worksheet.specs.private.Sheet.{enoughBytes, Wrote}
-use Rattle.worksheet.specs.private.Stack.{typesOn, Pushed, Cut}
-use Rattle.worksheet.specs.private.SecondPass.{ConversionRoom, CallThere, CallClaim, CallTyped}
+use Rattle.worksheet.specs.private.Stack.{Pushed, Cut}
+use Rattle.worksheet.specs.private.SecondPass.{ConversionRoom, CallThere, CallClaim, OnTop, CallTyped}
 use Rattle.calls.proofs.OutcomePapers.{choice-of, operand-there}
 use Rattle.machine.proofs.LineBytes.{encode-append}
 use Rattle.worksheet.proofs.Room.{four-each, few-conversions}
@@ -69,88 +72,112 @@ pub part-length : (l : List ℕ) (top n : ℕ) → n ≤ top → length (partOf 
 part-length l top n h = omega (arith, length-take (top - (top - n)) (drop (top - n) l))
 
 module _ (f n at past : ℕ) (switch : Bool) (s : Stack) (h : Sheet) where
+  -- the types and the marks that are asked
   abbrev asked : List ℕ
   asked = partOf (s .types) (s .top) n
 
-  abbrev choice : Choice
-  choice = resolve switch (listingOf f) asked
+  abbrev marked : List ℕ
+  marked = partOf (s .marks) (s .top) n
 
-  -- the choice for the operands themselves
-  told : (ts us : List ℕ) → typesOn s ≡ ts ++ us → length us ≡ n → length ts + n ≡ s .top → resolve switch (listingOf f) us ≡ choice
-  told ts us e m l = ap (resolve switch (listingOf f)) (sym (part-is (s .types) (s .top) n ts us e m l))
+  module _ (measured concrete : Bool) (any : measured ≡ anyMark marked) (only : concrete ≡ concreteOnly switch measured) where
+    abbrev choice : Choice
+    choice = resolve concrete (listingOf f) asked
 
-  -- ---- a refusal, with its place
+    -- the operands on top are those that are asked
+    module _ (ts ms : List ℕ) (us : List Operand) (ps qs : List ℕ) (on : OnTop s n ts ms us ps qs) where
+      types-there : asked ≡ codes us
+      types-there = part-is (s .types) (s .top) n ts (codes us) (on .types-are) (codes-length us ∙ on .many) (on .types-low)
 
-  abbrev ended : Refusal → Progress
-  ended q = record { verdict = Refused q; at = past; stack = s; sheet = h }
+      any-there : measured ≡ anyMeasured us
+      any-there =
+          any ∙ ap anyMark (part-is (s .marks) (s .top) n ms (marks us) (on .marks-are) (marks-length us ∙ on .many) (on .marks-low))
+          ∙ measured-marks us
 
-  ended-by : (q : Refusal) (c : Choice) → choice ≡ c
-      → ((us qs : List ℕ) → ((k : ℕ) → k < n → getD (s .starts) (s .top - n + k) 0 ≡ getD qs k 0)
-      → (ts ps : List ℕ) → CallClaim at past ts ps h (ended q) (conclude f at qs us [] c))
-      → CallTyped f n at past switch s h (ended q)
-  unfolding CallTyped
-  ended-by q c e claim ts us ps qs te se um qm tl pl =
-      subst⁻¹ (λ (x : Choice). CallClaim at past ts ps h (ended q) (conclude f at qs us [] x)) (told ts us te um tl ∙ e)
-      (claim us qs (at-part (s .starts) (s .top) n ps qs se qm pl) ts ps)
+      -- the choice for the operands themselves
+      told : resolveOf switch (listingOf f) us ≡ choice
+      told =
+          ap₂ (λ b l. resolve b (listingOf f) l) (ap (concreteOnly switch) (sym any-there) ∙ sym only) (sym types-there)
 
-  -- the operand after which no rule is left is one of the call's
-  pub operand-here : n ≤ s .top → (part : Part) (k : ℕ) → outcomePaper (NoneAfter part k) ≡ answered choice → k < n
-  operand-here l part k e =
-      omega (
-        arith,
-        operand-there switch (listingOf f) asked part k (choice-of (NoneAfter part k) choice e),
-        part-length (s .types) (s .top) n l,
-      )
+    -- ---- a refusal, with its place
 
-  pub call-miscounted : outcomePaper WrongCount ≡ answered choice → CallTyped f n at past switch s h (ended (refusal.WrongCount at))
-  call-miscounted e = ended-by (refusal.WrongCount at) wrongCount (choice-of WrongCount choice e) (λ us qs g ts ps. refl)
+    abbrev ended : Refusal → Progress
+    ended q = record { verdict = Refused q; at = past; stack = s; sheet = h }
 
-  pub call-none-after : n ≤ s .top → (part : Part) (k : ℕ) (why : Refusal) → paper.refusalPaper why ≡ paper.refusal (noneLeft part) (getD (s .starts) (s .top - n + k) 0) []
-      → outcomePaper (NoneAfter part k) ≡ answered choice → CallTyped f n at past switch s h (ended why)
-  call-none-after l part k why is e =
-      ended-by why (noneAfter part k) (choice-of (NoneAfter part k) choice e)
-      (λ us qs g ts ps. is ∙ ap (λ (x : ℕ). paper.refusal (noneLeft part) x []) (g k (operand-here l part k e)))
+    ended-by : (q : Refusal) (c : Choice) → choice ≡ c
+        → ((us : List Operand) (qs : List ℕ) → ((k : ℕ) → k < n → getD (s .starts) (s .top - n + k) 0 ≡ getD qs k 0)
+        → (ts ms ps : List ℕ) → CallClaim at past ts ms ps h (ended q) (conclude f at qs us [] c))
+        → CallTyped f n at past switch s h (ended q)
+    unfolding CallTyped
+    ended-by q c e claim ts ms us ps qs on =
+        subst⁻¹ (λ (x : Choice). CallClaim at past ts ms ps h (ended q) (conclude f at qs us [] x)) (told ts ms us ps qs on ∙ e)
+        (claim us qs (at-part (s .starts) (s .top) n ps qs (on .starts-are) (on .placed) (on .starts-low)) ts ms ps)
 
-  pub call-none-concrete : outcomePaper NoneConcrete ≡ answered choice → CallTyped f n at past switch s h (ended (refusal.EmptySet at))
-  call-none-concrete e = ended-by (refusal.EmptySet at) noneConcrete (choice-of NoneConcrete choice e) (λ us qs g ts ps. refl)
+    -- the operand after which no rule is left is one of the call's
+    pub operand-here : n ≤ s .top → (part : Part) (k : ℕ) → outcomePaper (NoneAfter part k) ≡ answered choice → k < n
+    operand-here l part k e =
+        omega (
+          arith,
+          operand-there concrete (listingOf f) asked part k (choice-of (NoneAfter part k) choice e),
+          part-length (s .types) (s .top) n l,
+        )
 
-  -- ---- a rule
+    pub call-miscounted : outcomePaper WrongCount ≡ answered choice → CallTyped f n at past switch s h (ended (refusal.WrongCount at))
+    call-miscounted e = ended-by (refusal.WrongCount at) wrongCount (choice-of WrongCount choice e) (λ us qs g ts ms ps. refl)
 
-  -- the lines of a call whose rule's record is the answer's
-  lines-are : (us : List ℕ) (i : ℕ) (r : Signature) → Ruled us r → length us ≡ n
-      → encode (conversions us (argumentsOf (ruleOf r))) ++ (callMark ∷ f ∷ i ∷ n ∷ []) ≡ encode (callLines f i us r)
-  unfolding encode
-  lines-are us i r k m =
-      sym (encode-append (conversions us (r .arguments)) (callLine f i (length us) ∷ [])
-      ∙ ap₂ (λ az x. encode (conversions us az) ++ (callMark ∷ f ∷ i ∷ x ∷ [])) (sym (k .fields)) m)
+    pub call-none-after : n ≤ s .top → (part : Part) (k : ℕ) (why : Refusal) → paper.refusalPaper why ≡ paper.refusal (noneLeft part) (getD (s .starts) (s .top - n + k) 0) []
+        → outcomePaper (NoneAfter part k) ≡ answered choice → CallTyped f n at past switch s h (ended why)
+    call-none-after l part k why is e =
+        ended-by why (noneAfter part k) (choice-of (NoneAfter part k) choice e)
+        (λ us qs g ts ms ps. is ∙ ap (λ (x : ℕ). paper.refusal (noneLeft part) x []) (g k (operand-here l part k e)))
 
-  module _ (x : Chosen) (m m′ : Sheet) (s′ s″ : Stack) (conv : Wrote h (encode (conversions asked (argumentsOf (x .rule)))) m)
-      (line : Wrote m (callMark ∷ f ∷ x .index ∷ n ∷ []) m′) (cut : Cut s n s′)
-      (push : Pushed s′ (x .rule .result ∷ []) (at ∷ []) s″) where
-    abbrev end : Progress
-    end = record { verdict = Accepted; at = past; stack = s″; sheet = m′ }
+    pub call-none-concrete : outcomePaper NoneConcrete ≡ answered choice → CallTyped f n at past switch s h (ended (refusal.EmptySet at))
+    call-none-concrete e = ended-by (refusal.EmptySet at) noneConcrete (choice-of NoneConcrete choice e) (λ us qs g ts ms ps. refl)
 
-    pub call-ruled : outcomePaper (Rule x) ≡ answered choice → CallTyped f n at past switch s h end
-    unfolding CallTyped ruleOf
-    call-ruled e ts us ps qs te se um qm tl pl =
-        let c = choice-of (Rule x) choice e in
-        let r = c .0 in
-        let rule : ruleOf r ≡ x .rule = c .2 in
-        let is : resolve switch (listingOf f) us ≡ chosen (x .index) r = told ts us te um tl ∙ c .1 in
-        let here : asked ≡ us = part-is (s .types) (s .top) n ts us te um tl in
-        subst⁻¹ (λ (y : Choice). CallClaim at past ts ps h end (conclude f at qs us [] y)) is
-        record {
-          verdict-is = refl;
-          at-is = refl;
-          types-are = push .types-are
-              ∙ ap₂ (λ l t. l ++ (t ∷ [])) (ap₂ take (cut .top-is) (cut .types-same) ∙ front-is (s .types) (s .top) n ts us te um tl)
-              (sym (ap (λ y. y .result) rule));
-          starts-are = push .starts-are
-              ∙ ap (λ l. l ++ (at ∷ [])) (ap₂ take (cut .top-is) (cut .starts-same) ∙ front-is (s .starts) (s .top) n ps qs se qm pl);
-          top-is = omega (arith, push .top-is, cut .top-is);
-          wrote = wrote-as (lines-are us (x .index) r (ruled switch f us (x .index) r is) um)
-              (wrote-both (wrote-as (ap₂ (λ l y. encode (conversions l (argumentsOf y))) here (sym rule)) conv) line);
-        }
+    -- ---- a rule
+
+    -- the lines of a call whose rule's record is the answer's
+    lines-are : (us : List ℕ) (i : ℕ) (r : Signature) → Ruled us r → length us ≡ n
+        → encode (conversions us (argumentsOf (ruleOf r))) ++ (callKind ∷ f ∷ i ∷ n ∷ []) ≡ encode (callLines f i us r)
+    unfolding encode
+    lines-are us i r k m =
+        sym (encode-append (conversions us (r .arguments)) (callLine f i (length us) ∷ [])
+        ∙ ap₂ (λ az x. encode (conversions us az) ++ (callKind ∷ f ∷ i ∷ x ∷ [])) (sym (k .fields)) m)
+
+    module _ (x : Chosen) (m m′ : Sheet) (s′ s″ : Stack) (conv : Wrote h (encode (conversions asked (argumentsOf (x .rule)))) m)
+        (line : Wrote m (callKind ∷ f ∷ x .index ∷ n ∷ []) m′) (cut : Cut s n s′)
+        (push : Pushed s′ (record { code = x .rule .result; measured = measured } ∷ []) (at ∷ []) s″) where
+      abbrev end : Progress
+      end = record { verdict = Accepted; at = past; stack = s″; sheet = m′ }
+
+      pub call-ruled : outcomePaper (Rule x) ≡ answered choice → CallTyped f n at past switch s h end
+      unfolding CallTyped ruleOf
+      call-ruled e ts ms us ps qs on =
+          let c = choice-of (Rule x) choice e in
+          let r = c .0 in
+          let rule : ruleOf r ≡ x .rule = c .2 in
+          let is : resolveOf switch (listingOf f) us ≡ chosen (x .index) r = told ts ms us ps qs on ∙ c .1 in
+          let typed : length (codes us) ≡ n = codes-length us ∙ on .many in
+          let marked : length (marks us) ≡ n = marks-length us ∙ on .many in
+          subst⁻¹ (λ (y : Choice). CallClaim at past ts ms ps h end (conclude f at qs us [] y)) is
+          record {
+            verdict-is = refl;
+            at-is = refl;
+            types-are = push .types-are
+                ∙ ap₂ (λ l t. l ++ (t ∷ []))
+                (ap₂ take (cut .top-is) (cut .types-same) ∙ front-is (s .types) (s .top) n ts (codes us) (on .types-are) typed (on .types-low))
+                (sym (ap (λ y. y .result) rule));
+            marks-are = push .marks-are
+                ∙ ap₂ (λ l b. l ++ (markOf b ∷ []))
+                (ap₂ take (cut .top-is) (cut .marks-same) ∙ front-is (s .marks) (s .top) n ms (marks us) (on .marks-are) marked (on .marks-low))
+                (any-there ts ms us ps qs on);
+            starts-are = push .starts-are
+                ∙ ap (λ l. l ++ (at ∷ []))
+                (ap₂ take (cut .top-is) (cut .starts-same) ∙ front-is (s .starts) (s .top) n ps qs (on .starts-are) (on .placed) (on .starts-low));
+            top-is = omega (arith, push .top-is, cut .top-is, on .types-low);
+            wrote = wrote-as (lines-are (codes us) (x .index) r (ruled (concreteOnly switch (anyMeasured us)) f (codes us) (x .index) r is) typed)
+                (wrote-both
+                (wrote-as (ap₂ (λ l y. encode (conversions l (argumentsOf y))) (types-there ts ms us ps qs on) (sym rule)) conv) line);
+          }
 
 -- there is room for the conversions, and then for the call's line
 pub conversion-room : {s : Stack} {h : Sheet} (n : ℕ) (rule : rules.Rule) → CallThere n s h

@@ -14,7 +14,7 @@ use Rattle.scalars.specs.Mask.{choose}
 use Rattle.rules.specs.Rule.{argumentsOf}
 use Rattle.rules.specs.declared.rule.Rule.{Rule}
 use Rattle.worksheet.specs.declared.sheet.Sheet.{Sheet}
-use Rattle.machine.specs.Line.{conversionLine, conversionMark, conversions, encode}
+use Rattle.machine.specs.Line.{conversionLine, conversionKind, conversions, encode}
 use Rattle.worksheet.specs.private.Sheet.{Wrote}
 use Rattle.worksheet.proofs.Written.{wrote-both, wrote-as, wrote-nothing}
 
@@ -53,7 +53,7 @@ module _ (ts : List ℕ) (rule : Rule) (i : ℕ) (taken : length ts ≤ length (
         ap encode s
 
     differ-left : (getD ts i 0 ≡ wanted → ⊥)
-        → leftFrom ts rule i ≡ (conversionMark ∷ (length ts - 1 - i) ∷ wanted ∷ 0 ∷ []) ++ leftFrom ts rule (i + 1)
+        → leftFrom ts rule i ≡ (conversionKind ∷ (length ts - 1 - i) ∷ wanted ∷ 0 ∷ []) ++ leftFrom ts rule (i + 1)
     unfolding encode
     differ-left e =
         let s : conversions (drop i ts) (drop i (argumentsOf rule))
@@ -68,10 +68,10 @@ module _ (ts : List ℕ) (rule : Rule) (i : ℕ) (taken : length ts ≤ length (
 
     -- any other has one
     pub leave-line : (h m m′ : Sheet) (x : ℕ) → x ≡ wanted → (getD ts i 0 ≡ x → ⊥)
-        → Wrote m (conversionMark ∷ (length ts - 1 - i) ∷ x ∷ 0 ∷ []) m′ → Leaves h ts rule m i → Leaves h ts rule m′ (i + 1)
+        → Wrote m (conversionKind ∷ (length ts - 1 - i) ∷ x ∷ 0 ∷ []) m′ → Leaves h ts rule m i → Leaves h ts rule m′ (i + 1)
     leave-line h m m′ x p e l k r w =
         k r (wrote-as (sym (differ-left (λ q. e (q ∙ sym p))))
-        (wrote-both (wrote-as (ap (λ y. conversionMark ∷ (length ts - 1 - i) ∷ y ∷ 0 ∷ []) p) l) w))
+        (wrote-both (wrote-as (ap (λ y. conversionKind ∷ (length ts - 1 - i) ∷ y ∷ 0 ∷ []) p) l) w))
 
   -- at the end nothing is left
   pub leave-none : (h m : Sheet) → length ts ≤ i → Leaves h ts rule m i → Wrote h (leftFrom ts rule 0) m

@@ -1,13 +1,16 @@
 -- The second pass, by what stands at an offset: one law for each way through `type_node` and `type_arguments`, so that the functions'
 -- proofs only cite it.
 -- Rests on the database only by the laws of `functions/proofs/Database.antt`. Assumes nothing.
-use mathlib.Core.Path.{_≡_, refl, sym, ap, subst, _∙_}
-use mathlib.Core.Bool.{Bool}
+use mathlib.Core.Path.{_≡_, refl, sym, ap, ap₂, subst, _∙_}
+use mathlib.Core.Bool.{Bool, true, false}
 use mathlib.Core.List.{List, [], _∷_, _++_, append-assoc}
 use Prim.Native.Nat.{ℕ, _+_, _-_, _*_, _≤_, _<_}
 use native.Mathlib.Omega.{arith}
+use lib.Dec.{eqb}
 use lib.ListN.{length, getD, drop, length-append}
-use Rattle.calls.specs.Choice.{Choice, chosen, wrongCount, noneAfter, noneConcrete, resolve}
+use Rattle.types.specs.Operand.{markOf, codes}
+use Rattle.types.specs.declared.operand.Operand.{Operand}
+use Rattle.calls.specs.Choice.{Choice, chosen, wrongCount, noneAfter, noneConcrete, resolveOf}
 use Rattle.functions.specs.Functions.{listingOf}
 use Rattle.scalars.specs.declared.refusal.Refusal.{Refusal}
 use Rattle.scalars.specs.Paper.{refusal, verdictPaper}
@@ -16,13 +19,13 @@ use Rattle.worksheet.specs.declared.stack.Stack.{Stack}
 use Rattle.worksheet.specs.declared.progress.Progress.{Progress}
 use Rattle.scalars.specs.declared.answer.Verdict.{Verdict}
 use Rattle.scalars.specs.declared.answer.Verdict.the-variants.{Accepted, Refused}
-use Rattle.expressions.specs.Tree.{Tree, Trees, leaf, call, none, more, count, bytesOf, bytesOfAll, nodes, nodesAll}
-use Rattle.machine.specs.Line.{Line, leafMark, callLines, encode}
+use Rattle.expressions.specs.Tree.{Tree, Trees, leaf, call, none, more, count, callTag, measuredTag, tagOf, bytesOf, bytesOfAll, nodes, nodesAll}
+use Rattle.machine.specs.Line.{Line, leafKind, callLines, encode}
 use Rattle.machine.specs.Machine.{mostOperands}
 use Rattle.worksheet.specs.private.Sheet.{enoughBytes, Wrote}
 use Rattle.worksheet.specs.Places.{inside, behind, starts}
 use Rattle.worksheet.specs.Typer.{Typed, typed, refused, conclude, typeOf, typeAll}
-use Rattle.worksheet.specs.private.Stack.{typesOn, startsOn, Counted, Pushed}
+use Rattle.worksheet.specs.private.Stack.{typesOn, marksOn, startsOn, Counted, Pushed}
 use Rattle.worksheet.specs.private.SecondPass.{Went, CallThere, CallClaim, CallTyped, NodeThere, NodeClaim, NodeTyped, ArgsThere, ArgsClaim, ArgsTyped}
 use Rattle.expressions.proofs.Answers.{accepted-refused}
 use Rattle.expressions.proofs.Bytes.{after, leaf-there, call-there, bytes-least}
@@ -39,6 +42,15 @@ clash c w = accepted-refused (sym (ap verdictPaper c) ∙ w)
 abbrev clean : ℕ → Stack → Sheet → Progress
 clean at s h = record { verdict = Accepted; at = at; stack = s; sheet = h }
 
+-- a leaf's tag tells whether it is measured, and is not a call's
+tag-tells : (m : Bool) → eqb (tagOf m) measuredTag ≡ m
+tag-tells true = refl
+tag-tells false = refl
+
+no-call : (m : Bool) → tagOf m ≡ callTag → ⊥
+no-call true e = omega arith
+no-call false e = omega arith
+
 module _ (b : List ℕ) (at : ℕ) (s : Stack) (h : Sheet) where
   pub two-bytes : NodeThere b at s h → at + 1 < length b
   two-bytes n = go (n .tree) (n .text)
@@ -50,26 +62,31 @@ module _ (b : List ℕ) (at : ℕ) (s : Stack) (h : Sheet) where
   pub room : NodeThere b at s h → (s .top < mostOperands) × (h .len + 4 ≤ enoughBytes)
   room n = let p = nodes-least (n .tree) in (omega (arith, n .stack-room), omega (arith, n .sheet-room))
 
-  -- a leaf
-  pub leaf-typed : (switch : Bool) (s′ : Stack) (h′ : Sheet) → getD b at 0 ≡ 0 → Pushed s (getD b (at + 1) 0 ∷ []) (at ∷ []) s′
-      → Wrote h (leafMark ∷ getD b (at + 1) 0 ∷ 0 ∷ 0 ∷ []) h′ → NodeTyped b at switch s h (clean (at + 2) s′ h′)
+  -- a leaf, whose tag is not a call's
+  abbrev pub leafThere : Operand
+  leafThere = record { code = getD b (at + 1) 0; measured = eqb (getD b at 0) measuredTag }
+
+  pub leaf-typed : (switch : Bool) (s′ : Stack) (h′ : Sheet) → (getD b at 0 ≡ callTag → ⊥) → Pushed s (leafThere ∷ []) (at ∷ []) s′
+      → Wrote h (leafKind ∷ getD b (at + 1) 0 ∷ markOf (leafThere .measured) ∷ 0 ∷ []) h′ → NodeTyped b at switch s h (clean (at + 2) s′ h′)
   unfolding NodeTyped typeOf bytesOf encode
   leaf-typed switch s′ h′ tag p w (leaf l) tail t =
       let there = leaf-there b at l tail t in
+      let is : leafThere ≡ l =
+      ap₂ (λ (c : ℕ) (m : Bool). record { code = c; measured = m }) (there .type-is) (ap (λ k. eqb k measuredTag) (there .tag) ∙ tag-tells (l .measured)) in
       record {
         verdict-is = refl;
         at-is = refl;
-        pushed = rw (there .type-is) at p;
-        wrote = rw (there .type-is) at w;
+        pushed = subst (λ (o : Operand). Pushed s (o ∷ []) (at ∷ []) s′) is p;
+        wrote = subst (λ (o : Operand). Wrote h (leafKind ∷ o .code ∷ markOf (o .measured) ∷ 0 ∷ []) h′) is w;
       }
-  leaf-typed switch s′ h′ tag p w (call f es) tail t = absurd (omega (arith, call-there b at f es tail t .tag))
+  leaf-typed switch s′ h′ tag p w (call f es) tail t = absurd (tag (call-there b at f es tail t .tag))
 
-  module _ (no-leaf : getD b at 0 ≡ 0 → ⊥) where
+  module _ (a-call : getD b at 0 ≡ callTag) where
     pub three-bytes : NodeThere b at s h → at + 2 < length b
     three-bytes n = go (n .tree) (n .text)
       where
         go : (e : Tree) → drop at b ≡ bytesOf e ++ n .tail → at + 2 < length b
-        go (leaf l) t = absurd (no-leaf (leaf-there b at l (n .tail) t .tag))
+        go (leaf l) t = absurd (no-call (l .measured) (sym (leaf-there b at l (n .tail) t .tag) ∙ a-call))
         go (call f es) t = call-there b at f es (n .tail) t .here
 
     pub args-there : NodeThere b at s h → ArgsThere b (at + 3) (getD b (at + 2) 0) s h
@@ -79,7 +96,7 @@ module _ (b : List ℕ) (at : ℕ) (s : Stack) (h : Sheet) where
         go : (e : Tree) → drop at b ≡ bytesOf e ++ n .tail → s .top + nodes e ≤ mostOperands
             → h .len + 8 * nodes e ≤ enoughBytes + 4
             → ArgsThere b (at + 3) (getD b (at + 2) 0) s h
-        go (leaf l) t u v = absurd (no-leaf (leaf-there b at l (n .tail) t .tag))
+        go (leaf l) t u v = absurd (no-call (l .measured) (sym (leaf-there b at l (n .tail) t .tag) ∙ a-call))
         go (call f es) t u v =
             let there = call-there b at f es (n .tail) t in
             record {
@@ -96,12 +113,12 @@ module _ (b : List ℕ) (at : ℕ) (s : Stack) (h : Sheet) where
       -- a fault among the arguments
       pub call-wrong : (why : Refusal) → i .verdict ≡ Refused why → NodeTyped b at switch s h i
       unfolding NodeTyped ArgsTyped typeOf
-      call-wrong why w (leaf l) tail t = absurd (no-leaf (leaf-there b at l tail t .tag))
+      call-wrong why w (leaf l) tail t = absurd (no-call (l .measured) (sym (leaf-there b at l tail t .tag) ∙ a-call))
       call-wrong why w (call f es) tail t =
           let there = call-there b at f es tail t in
           go (typeAll listingOf switch es (inside at)) (inner es tail (sym (there .number)) (there .arguments))
         where
-          go : (x : Typed (List ℕ)) → ArgsClaim es (inside at) s h i x
+          go : (x : Typed (List Operand)) → ArgsClaim es (inside at) s h i x
               → NodeClaim (call f es) at s h i (concludeCall listingOf switch f at (starts es (inside at)) x)
           go (refused k p) c = c
           go (typed ts ls) c = clash (c .verdict-is) (ap verdictPaper w)
@@ -114,7 +131,7 @@ module _ (b : List ℕ) (at : ℕ) (s : Stack) (h : Sheet) where
           where
             among : (f : ℕ) (es : Trees) → getD b (at + 2) 0 ≡ count es → s .top + nodes (call f es) ≤ mostOperands
                 → h .len + 8 * nodes (call f es) ≤ enoughBytes + 4
-                → (x : Typed (List ℕ)) → ArgsClaim es (inside at) s h i x → SizedAll es x → CallThere (getD b (at + 2) 0) (i .stack) (i .sheet)
+                → (x : Typed (List Operand)) → ArgsClaim es (inside at) s h i x → SizedAll es x → CallThere (getD b (at + 2) 0) (i .stack) (i .sheet)
             among f es m u v (refused k p) c z = clash w c
             among f es m u v (typed ts ls) c z =
                 let top = c .pushed .top-is in
@@ -128,52 +145,62 @@ module _ (b : List ℕ) (at : ℕ) (s : Stack) (h : Sheet) where
             go : (e : Tree) → drop at b ≡ bytesOf e ++ n .tail → s .top + nodes e ≤ mostOperands
                 → h .len + 8 * nodes e ≤ enoughBytes + 4
                 → CallThere (getD b (at + 2) 0) (i .stack) (i .sheet)
-            go (leaf l) t u v = absurd (no-leaf (leaf-there b at l (n .tail) t .tag))
+            go (leaf l) t u v = absurd (no-call (l .measured) (sym (leaf-there b at l (n .tail) t .tag) ∙ a-call))
             go (call f es) t u v =
                 let there = call-there b at f es (n .tail) t in
                 among f es (there .number) u v (typeAll listingOf switch es (inside at))
                 (inner es (n .tail) (sym (there .number)) (there .arguments)) (sized-all switch es (inside at))
 
         -- what is concluded of the operands
-        concluded : (f : ℕ) (es : Trees) (ts : List ℕ) (ls : List Line) (r : Progress) → Counted s
-            → Went (inside at + length (bytesOfAll es)) ts (starts es (inside at)) ls s h i
-            → (c : Choice) → CallClaim at (i .at) (typesOn s) (startsOn s) (i .sheet) r (conclude f at (starts es (inside at)) ts [] c)
-            → NodeClaim (call f es) at s h r (conclude f at (starts es (inside at)) ts ls c)
+        concluded : (f : ℕ) (es : Trees) (os : List Operand) (ls : List Line) (r : Progress) → Counted s
+            → Went (inside at + length (bytesOfAll es)) os (starts es (inside at)) ls s h i
+            → (c : Choice) → CallClaim at (i .at) (typesOn s) (marksOn s) (startsOn s) (i .sheet) r (conclude f at (starts es (inside at)) os [] c)
+            → NodeClaim (call f es) at s h r (conclude f at (starts es (inside at)) os ls c)
         unfolding bytesOf
-        concluded f es ts ls r full g (chosen j rule) c = record {
+        concluded f es os ls r full g (chosen j rule) c = record {
           verdict-is = c .verdict-is;
           at-is = omega (arith, c .at-is, g .at-is);
-          pushed = record { types-are = c .types-are; starts-are = c .starts-are; top-is = omega (arith, c .top-is, full .types-full) };
-          wrote = wrote-as (sym (encode-append ls (callLines f j ts rule))) (wrote-both (g .wrote) (c .wrote));
+          pushed = record {
+            types-are = c .types-are;
+            marks-are = c .marks-are;
+            starts-are = c .starts-are;
+            top-is = omega (arith, c .top-is, full .types-full);
+          };
+          wrote = wrote-as (sym (encode-append ls (callLines f j (codes os) rule))) (wrote-both (g .wrote) (c .wrote));
         }
-        concluded f es ts ls r full g wrongCount c = c
-        concluded f es ts ls r full g (noneAfter part k) c = c
-        concluded f es ts ls r full g noneConcrete c = c
+        concluded f es os ls r full g wrongCount c = c
+        concluded f es os ls r full g (noneAfter part k) c = c
+        concluded f es os ls r full g noneConcrete c = c
 
         pub call-typed : NodeThere b at s h → (r : Progress)
             → CallTyped (getD b (at + 1) 0) (getD b (at + 2) 0) at (i .at) switch (i .stack) (i .sheet) r → NodeTyped b at switch s h r
         unfolding NodeTyped ArgsTyped CallTyped typeOf
-        call-typed n r made (leaf l) tail t = absurd (no-leaf (leaf-there b at l tail t .tag))
+        call-typed n r made (leaf l) tail t = absurd (no-call (l .measured) (sym (leaf-there b at l tail t .tag) ∙ a-call))
         call-typed n r made (call f es) tail t =
             let there = call-there b at f es tail t in
             go (there .function) (there .number) (typeAll listingOf switch es (inside at))
             (inner es tail (sym (there .number)) (there .arguments)) (sized-all switch es (inside at))
           where
             go : getD b (at + 1) 0 ≡ f → getD b (at + 2) 0 ≡ count es
-                → (x : Typed (List ℕ)) → ArgsClaim es (inside at) s h i x → SizedAll es x
+                → (x : Typed (List Operand)) → ArgsClaim es (inside at) s h i x → SizedAll es x
                 → NodeClaim (call f es) at s h r (concludeCall listingOf switch f at (starts es (inside at)) x)
             go fe ne (refused k p) c z = clash w c
-            go fe ne (typed ts ls) c z =
+            go fe ne (typed os ls) c z =
                 let full = n .full in
                 let top = c .pushed .top-is in
                 let many = z .many in
                 let placed = starts-many es (inside at) in
-                let a = full .types-full in
-                let d = full .starts-full in
-                concluded f es ts ls r full c (resolve switch (listingOf f) ts)
-                (rw fe at made (typesOn s) ts (startsOn s) (starts es (inside at)) (c .pushed .types-are) (c .pushed .starts-are)
-                (omega arith) (omega arith)
-                (omega arith) (omega arith))
+                concluded f es os ls r full c (resolveOf switch (listingOf f) os)
+                (rw fe at made (typesOn s) (marksOn s) os (startsOn s) (starts es (inside at)) record {
+                  types-are = c .pushed .types-are;
+                  marks-are = c .pushed .marks-are;
+                  starts-are = c .pushed .starts-are;
+                  many = omega arith;
+                  placed = omega arith;
+                  types-low = omega (arith, full .types-full);
+                  marks-low = omega (arith, full .marks-full);
+                  starts-low = omega (arith, full .starts-full);
+                })
 
 module _ (b : List ℕ) (at left : ℕ) (switch : Bool) (s : Stack) (h : Sheet) where
   pub args-none : left ≡ 0 → ArgsTyped b at left switch s h (clean at s h)
@@ -207,7 +234,7 @@ module _ (b : List ℕ) (at left : ℕ) (switch : Bool) (s : Stack) (h : Sheet) 
           go (typeOf listingOf switch e at) (typeAll listingOf switch es (behind e at))
           (one e (bytesOfAll es ++ tail) (t ∙ append-assoc (bytesOf e) (bytesOfAll es) tail))
         where
-          go : (x : Typed ℕ) (y : Typed (List ℕ)) → NodeClaim e at s h i x → ArgsClaim (more e es) at s h i (before x y)
+          go : (x : Typed Operand) (y : Typed (List Operand)) → NodeClaim e at s h i x → ArgsClaim (more e es) at s h i (before x y)
           go (refused k p) y c = c
           go (typed u ls) y c = clash (c .verdict-is) (ap verdictPaper w)
 
@@ -220,7 +247,7 @@ module _ (b : List ℕ) (at left : ℕ) (switch : Bool) (s : Stack) (h : Sheet) 
             behind-it : (e : Tree) (es : Trees) → count (more e es) ≡ left → drop at b ≡ bytesOf e ++ (bytesOfAll es ++ n .tail)
                 → s .top + nodesAll (more e es) < mostOperands
                 → h .len + 8 * nodesAll (more e es) + 4 ≤ enoughBytes
-                → (x : Typed ℕ) → NodeClaim e at s h i x → Sized e x
+                → (x : Typed Operand) → NodeClaim e at s h i x → Sized e x
                 → ArgsThere b (i .at) (left - 1) (i .stack) (i .sheet) × (at < i .at) × (at < length b)
             behind-it e es m t u v (refused j p) c z = clash w c
             behind-it e es m t u v (typed y ls) c z =
@@ -255,8 +282,8 @@ module _ (b : List ℕ) (at left : ℕ) (switch : Bool) (s : Stack) (h : Sheet) 
                 (sized switch e at)
 
         -- one argument and those behind it
-        both-went : (e : Tree) (es : Trees) (t : ℕ) (ls : List Line) (r : Progress) → Went (behind e at) (t ∷ []) (at ∷ []) ls s h i
-            → (y : Typed (List ℕ)) → ArgsClaim es (behind e at) (i .stack) (i .sheet) r y → ArgsClaim (more e es) at s h r (before (typed t ls) y)
+        both-went : (e : Tree) (es : Trees) (t : Operand) (ls : List Line) (r : Progress) → Went (behind e at) (t ∷ []) (at ∷ []) ls s h i
+            → (y : Typed (List Operand)) → ArgsClaim es (behind e at) (i .stack) (i .sheet) r y → ArgsClaim (more e es) at s h r (before (typed t ls) y)
         unfolding bytesOf starts
         both-went e es t ls r g (refused k p) c = c
         both-went e es t ls r g (typed ts ls′) c = record {
@@ -273,7 +300,7 @@ module _ (b : List ℕ) (at left : ℕ) (switch : Bool) (s : Stack) (h : Sheet) 
             let t′ : drop at b ≡ bytesOf e ++ (bytesOfAll es ++ tail) = t ∙ append-assoc (bytesOf e) (bytesOfAll es) tail in
             go t′ (typeOf listingOf switch e at) (one e (bytesOfAll es ++ tail) t′)
           where
-            go : drop at b ≡ bytesOf e ++ (bytesOfAll es ++ tail) → (x : Typed ℕ) → NodeClaim e at s h i x
+            go : drop at b ≡ bytesOf e ++ (bytesOfAll es ++ tail) → (x : Typed Operand) → NodeClaim e at s h i x
                 → ArgsClaim (more e es) at s h r (before x (typeAll listingOf switch es (behind e at)))
             go t′ (refused k p) c = clash w c
             go t′ (typed u ls) c =

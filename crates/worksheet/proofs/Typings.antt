@@ -5,8 +5,11 @@ use mathlib.Core.List.{List, [], _∷_, _++_}
 use Prim.Native.Nat.{ℕ, suc, _+_, _*_, _≤_}
 use native.Mathlib.Omega.{arith}
 use lib.ListN.{length, length-append}
+use Rattle.types.specs.Operand.{codes}
+use Rattle.types.specs.declared.operand.Operand.{Operand}
+use Rattle.types.proofs.Operands.{codes-length}
 use Rattle.rules.specs.Signature.{Signature}
-use Rattle.calls.specs.Choice.{Choice, chosen, wrongCount, noneAfter, noneConcrete, resolve}
+use Rattle.calls.specs.Choice.{Choice, chosen, wrongCount, noneAfter, noneConcrete, resolveOf}
 use Rattle.functions.specs.Functions.{listingOf}
 use Rattle.expressions.specs.Tree.{Tree, Trees, leaf, call, none, more, count, nodes, nodesAll}
 use Rattle.machine.specs.Line.{Line, callLine, conversions}
@@ -15,51 +18,51 @@ use Rattle.worksheet.specs.Typer.{Typed, typed, refused, andThen, conclu
 use Rattle.worksheet.proofs.Room.{few-conversions}
 
 -- an operand and its lines in front of the others
-abbrev pub before : Typed ℕ → Typed (List ℕ) → Typed (List ℕ)
-before x y = andThen x (λ t ls. andThen y (λ ts ls′. typed (t ∷ ts) (ls ++ ls′)))
+abbrev pub before : Typed Operand → Typed (List Operand) → Typed (List Operand)
+before x y = andThen x (λ o ls. andThen y (λ os ls′. typed (o ∷ os) (ls ++ ls′)))
 
 -- what is concluded of a call's operands
-abbrev pub concludeCall : (ℕ → List Signature) → Bool → ℕ → ℕ → List ℕ → Typed (List ℕ) → Typed ℕ
-concludeCall listingOf switch f at places x = andThen x (λ ts ls. conclude f at places ts ls (resolve switch (listingOf f) ts))
+abbrev pub concludeCall : (ℕ → List Signature) → Bool → ℕ → ℕ → List ℕ → Typed (List Operand) → Typed Operand
+concludeCall listingOf switch f at places x = andThen x (λ os ls. conclude f at places os ls (resolveOf switch (listingOf f) os))
 
 pub record Small (e : Tree) (ls : List Line) : Type 0 where
   pub few : length ls + 1 ≤ 2 * nodes e
 
-abbrev pub Sized : Tree → Typed ℕ → Type 0
-Sized e (typed t ls) = Small e ls
+abbrev pub Sized : Tree → Typed Operand → Type 0
+Sized e (typed o ls) = Small e ls
 Sized e (refused n p) = Unit
 
-pub record SmallAll (es : Trees) (ts : List ℕ) (ls : List Line) : Type 0 where
-  pub many : length ts ≡ count es
-  pub few : length ls + length ts ≤ 2 * nodesAll es
+pub record SmallAll (es : Trees) (os : List Operand) (ls : List Line) : Type 0 where
+  pub many : length os ≡ count es
+  pub few : length ls + length os ≤ 2 * nodesAll es
 
-abbrev pub SizedAll : Trees → Typed (List ℕ) → Type 0
-SizedAll es (typed ts ls) = SmallAll es ts ls
+abbrev pub SizedAll : Trees → Typed (List Operand) → Type 0
+SizedAll es (typed os ls) = SmallAll es os ls
 SizedAll es (refused n p) = Unit
 
-conclude-sized : (f at : ℕ) (places : List ℕ) (es : Trees) (ts : List ℕ) (ls : List Line) → SmallAll es ts ls
-    → (c : Choice) → Sized (call f es) (conclude f at places ts ls c)
+conclude-sized : (f at : ℕ) (places : List ℕ) (es : Trees) (os : List Operand) (ls : List Line) → SmallAll es os ls
+    → (c : Choice) → Sized (call f es) (conclude f at places os ls c)
 unfolding nodes
-conclude-sized f at places es ts ls k (chosen i r) =
-    let a = length-append ls (conversions ts (r .arguments) ++ (callLine f i (length ts) ∷ [])) in
-    let b = length-append (conversions ts (r .arguments)) (callLine f i (length ts) ∷ []) in
-    let d = few-conversions ts (r .arguments) in
-    record { few = omega (arith, k .few) }
-conclude-sized f at places es ts ls k wrongCount = tt
-conclude-sized f at places es ts ls k (noneAfter part j) = tt
-conclude-sized f at places es ts ls k noneConcrete = tt
+conclude-sized f at places es os ls k (chosen i r) =
+    let a = length-append ls (conversions (codes os) (r .arguments) ++ (callLine f i (length (codes os)) ∷ [])) in
+    let b = length-append (conversions (codes os) (r .arguments)) (callLine f i (length (codes os)) ∷ []) in
+    let d = few-conversions (codes os) (r .arguments) in
+    record { few = omega (arith, k .few, codes-length os) }
+conclude-sized f at places es os ls k wrongCount = tt
+conclude-sized f at places es os ls k (noneAfter part j) = tt
+conclude-sized f at places es os ls k noneConcrete = tt
 
 module _ (switch : Bool) where
-  call-sized : (f at : ℕ) (places : List ℕ) (es : Trees) (x : Typed (List ℕ)) → SizedAll es x
+  call-sized : (f at : ℕ) (places : List ℕ) (es : Trees) (x : Typed (List Operand)) → SizedAll es x
       → Sized (call f es) (concludeCall listingOf switch f at places x)
   call-sized f at places es (refused n p) k = tt
-  call-sized f at places es (typed ts ls) k = conclude-sized f at places es ts ls k (resolve switch (listingOf f) ts)
+  call-sized f at places es (typed os ls) k = conclude-sized f at places es os ls k (resolveOf switch (listingOf f) os)
 
-  before-sized : (e : Tree) (es : Trees) (x : Typed ℕ) (y : Typed (List ℕ)) → Sized e x → SizedAll es y → SizedAll (more e es) (before x y)
+  before-sized : (e : Tree) (es : Trees) (x : Typed Operand) (y : Typed (List Operand)) → Sized e x → SizedAll es y → SizedAll (more e es) (before x y)
   unfolding nodes count
   before-sized e es (refused n p) y k h = tt
-  before-sized e es (typed t ls) (refused n p) k h = tt
-  before-sized e es (typed t ls) (typed ts ls′) k h = record { many = ap suc (h .many); few = omega (arith, length-append ls ls′, k .few, h .few) }
+  before-sized e es (typed o ls) (refused n p) k h = tt
+  before-sized e es (typed o ls) (typed os ls′) k h = record { many = ap suc (h .many); few = omega (arith, length-append ls ls′, k .few, h .few) }
 
   mutual
     unfolding typeOf nodes count

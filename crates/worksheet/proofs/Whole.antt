@@ -1,6 +1,6 @@
 -- The whole answer: a fault of the first pass, or what the second pass makes of the tree that the first one accepted.
 -- Rests on the database only by the laws of `functions/proofs/Database.antt`. Assumes nothing.
-use mathlib.Core.Path.{_≡_, refl, sym, ap, _∙_}
+use mathlib.Core.Path.{_≡_, refl, sym, ap, ap₂, _∙_}
 use mathlib.Core.Bool.{Bool}
 use mathlib.Core.List.{List, [], _∷_, _++_, append-nil}
 use Prim.Native.Nat.{ℕ, _≤_, _<_}
@@ -9,6 +9,9 @@ use native.Mathlib.Decide.{decLt}
 use borrow.Author.Tests.{lt-ltb, le-ltb, lt-leb, le-leb}
 use lib.ListN.{length, getD, take, drop}
 use lib.Seq.{getD-take}
+use Rattle.types.specs.Operand.{markOf, operandOf}
+use Rattle.types.specs.declared.operand.Operand.{Operand}
+use Rattle.types.proofs.Operands.{operand-back}
 use Rattle.functions.specs.Functions.{functionCount, listingOf}
 use Rattle.scalars.specs.Paper.{Paper, accepted, refusal}
 use Rattle.worksheet.specs.declared.sheet.Sheet.{Sheet}
@@ -21,7 +24,7 @@ use Rattle.worksheet.specs.Typer.{Typed, typed, refused, typeOf}
 use Rattle.worksheet.specs.Answer.{withRoom, bufferAfter}
 use Rattle.worksheet.specs.private.Sheet.{written}
 use Rattle.worksheet.specs.Typing.{typingOf, typing, noType, answerOf}
-use Rattle.worksheet.specs.private.Stack.{typesOn}
+use Rattle.worksheet.specs.private.Stack.{typesOn, marksOn, operandAt}
 use Rattle.worksheet.specs.private.SecondPass.{NodeThere, NodeClaim, NodeTyped, SheetFits, roomAnswer, rootAnswer, rootBuffer}
 use Rattle.expressions.proofs.Sound.{Spelt, read-spelt}
 use Rattle.expressions.proofs.Answers.{accepted-tree, refused-fault}
@@ -31,11 +34,11 @@ use Rattle.lending.specs.Bytes.{roomFor, placed}
 use Rattle.lending.proofs.Placed.{placed-short, placed-fits}
 
 -- an answer and a buffer that are those of a typing
-abbrev Answered : List ℕ → Typed ℕ → Paper → List ℕ → Type 0
+abbrev Answered : List ℕ → Typed Operand → Paper → List ℕ → Type 0
 Answered d x a d′ = (a ≡ answerOf x) × (d′ ≡ bufferAfter x d)
 
 -- the room comes last
-with-room : (d : List ℕ) (t : ℕ) (ls : List Line) (result needed : ℕ) (bs : List ℕ)
+with-room : (d : List ℕ) (t : Operand) (ls : List Line) (result : Operand) (needed : ℕ) (bs : List ℕ)
     → result ≡ t → bs ≡ encode ls → needed ≡ length (encode ls)
     → Answered d (withRoom d (typed t ls)) (roomAnswer result needed (roomFor needed (length d))) (placed bs d)
 with-room d t ls result needed bs re be ne = go (decLt (length d) (length (encode ls)))
@@ -86,22 +89,26 @@ module _ (switch : Bool) (s d : List ℕ) where
             let (e, x, text, spelt) = tree in
             go e (typeOf listingOf switch e 0) (claim e text)
           where
-            go : (e : Tree) (x : Typed ℕ) → NodeClaim e 0 st h r x → length (written (r .sheet)) ≡ r .sheet .len
+            go : (e : Tree) (x : Typed Operand) → NodeClaim e 0 st h r x → length (written (r .sheet)) ≡ r .sheet .len
             go e (refused k p) c = clash clean c
             go e (typed t ls) c =
                 ap length (c .wrote .bytes-are ∙ ap (λ i. take i (h .bytes) ++ encode ls) len) ∙ omega (arith, c .wrote .len-is, len)
 
         -- the second pass is the typing of the tree, without the room
-        typed-root : (e : Tree) (x : Typed ℕ) → NodeClaim e 0 st h r x → Answered d (withRoom d x) (rootAnswer r (length d)) (rootBuffer r d)
+        typed-root : (e : Tree) (x : Typed Operand) → NodeClaim e 0 st h r x → Answered d (withRoom d x) (rootAnswer r (length d)) (rootBuffer r d)
         typed-root e (refused k p) c = rw c (refl, refl)
         typed-root e (typed t ls) c =
-            let types : typesOn (r .stack) ≡ t ∷ [] = c .pushed .types-are ∙ ap (λ i. take i (st .types) ++ (t ∷ [])) top in
+            let types : typesOn (r .stack) ≡ t .code ∷ [] = c .pushed .types-are ∙ ap (λ i. take i (st .types) ++ (t .code ∷ [])) top in
+            let marks : marksOn (r .stack) ≡ markOf (t .measured) ∷ [] =
+            c .pushed .marks-are ∙ ap (λ i. take i (st .marks) ++ (markOf (t .measured) ∷ [])) top in
             let here : 0 < r .stack .top = omega (arith, c .pushed .top-is) in
-            let result : getD (r .stack .types) 0 0 ≡ t =
-            sym (getD-take (r .stack .top) (r .stack .types) 0 0 here) ∙ ap (λ l. getD l 0 0) types in
+            let first : (l : List ℕ) (x : ℕ) → take (r .stack .top) l ≡ x ∷ [] → getD l 0 0 ≡ x =
+            λ l x e. sym (getD-take (r .stack .top) l 0 0 here) ∙ ap (λ k. getD k 0 0) e in
+            let result : operandAt (r .stack) 0 ≡ t =
+            ap₂ operandOf (first (r .stack .types) (t .code) types) (first (r .stack .marks) (markOf (t .measured)) marks) ∙ operand-back t in
             let bytes : written (r .sheet) ≡ encode ls = c .wrote .bytes-are ∙ ap (λ i. take i (h .bytes) ++ encode ls) len in
             let long : r .sheet .len ≡ length (encode ls) = omega (arith, c .wrote .len-is) in
-            rw (c .verdict-is) (with-room d t ls (getD (r .stack .types) 0 0) (r .sheet .len) (written (r .sheet)) result bytes long)
+            rw (c .verdict-is) (with-room d t ls (operandAt (r .stack) 0) (r .sheet .len) (written (r .sheet)) result bytes long)
 
         pub root-answer : Answered d (typing switch s d) (rootAnswer r (length d)) (rootBuffer r d)
         unfolding typingOf

@@ -6,6 +6,8 @@ use Prim.Native.Nat.{ℕ}
 use lib.ListN.{length}
 use Rattle.scalars.specs.Paper as paper
 use Rattle.scalars.specs.Paper.{Paper}
+use Rattle.types.specs.Operand.{markOf}
+use Rattle.types.specs.declared.operand.Operand.{Operand}
 use Rattle.rules.specs.Signature.{Signature}
 use Rattle.functions.specs.Functions.{functionCount, listingOf}
 use Rattle.expressions.specs.Reading.{Expression, read, refusedAs, expressionOf}
@@ -16,27 +18,30 @@ use Rattle.worksheet.specs.Typer.{Typed, typed, refused, typeOf}
 use Rattle.worksheet.specs.Answer.{withRoom}
 
 -- a fault of the first pass is the answer; a tree that was read is typed, from offset 0 on
-abbrev pub afterReading : (ℕ → List Signature) → Bool → List ℕ → Expression → Typed ℕ
+abbrev pub afterReading : (ℕ → List Signature) → Bool → List ℕ → Expression → Typed Operand
 afterReading listing switch buffer (read e) = withRoom buffer (typeOf listing switch e 0)
 afterReading listing switch buffer (refusedAs number place) = refused number place
 
 -- with so many functions, of these listings
-unfoldable pub typingOf : ℕ → (ℕ → List Signature) → Bool → List ℕ → List ℕ → Typed ℕ
+unfoldable pub typingOf : ℕ → (ℕ → List Signature) → Bool → List ℕ → List ℕ → Typed Operand
 typingOf functions listing switch s buffer = afterReading listing switch buffer (expressionOf functions s)
 
 -- with the functions of the crate `functions`
-abbrev pub typing : Bool → List ℕ → List ℕ → Typed ℕ
+abbrev pub typing : Bool → List ℕ → List ℕ → Typed Operand
 typing switch s buffer = typingOf functionCount listingOf switch s buffer
 
--- the paper's number and place, the type, and the worksheet's length in bytes, neither of them in use for what is refused: of a typing, whose lines
--- stand in the buffer, and of each case of the answer
+-- the paper's number and place, the type, the mark, and the worksheet's length in bytes, none of them in use for what is refused: of a typing,
+-- whose lines stand in the buffer, and of each case of the answer
 abbrev pub noType : List ℕ
-noType = paper.unused ∷ paper.unused ∷ []
+noType = paper.unused ∷ paper.unused ∷ paper.unused ∷ []
 
-abbrev pub answerOf : Typed ℕ → Paper
-answerOf (typed t ls) = paper.accepted (t ∷ length (encode ls) ∷ [])
+abbrev pub typeValues : Operand → ℕ → List ℕ
+typeValues o n = o .code ∷ markOf (o .measured) ∷ n ∷ []
+
+abbrev pub answerOf : Typed Operand → Paper
+answerOf (typed o ls) = paper.accepted (typeValues o (length (encode ls)))
 answerOf (refused number place) = paper.refusal number place noType
 
 abbrev pub typePaper : TypeAnswer → Paper
-typePaper (answer.Typed t n) = paper.accepted (t ∷ n ∷ [])
+typePaper (answer.Typed o n) = paper.accepted (typeValues o n)
 typePaper (answer.Refused why) = paper.refused why noType

@@ -1,5 +1,5 @@
 // One call in the second pass, once its operands are typed: its rule by the crate `calls`, the conversions that the rule asks for,
-// the call's own line, and the result in place of the operands; or the refusal, with its place in the expression. The first pass has
+// the call's own line, and the result, measured if an operand is, in place of the operands; or the refusal, with its place in the expression. The first pass has
 // tested the function and the leaves' types, so what the call comes to is asked without a test.
 
 ghost use Rattle.rules.specs.Rule.{argumentsOf};
@@ -18,6 +18,9 @@ use machine::SPARE;
 use rules::Rule;
 use scalars::Refusal;
 use scalars::Verdict;
+use types::Operand;
+use types::any_measured;
+use types::concrete_only;
 
 // Types the call at `at`, whose operands are the last `count` on the stack, and whose last byte stands before `past`. A wrong count and
 // an empty set are refused at the call's tag, an operand of a wrong shape or number at its first byte.
@@ -37,9 +40,11 @@ pub(crate) fn type_call(
     let top = stack.top;
     let from = top - n;
     let types = stack.types;
+    let marks = stack.marks;
     let starts = stack.starts;
     let operands = &types[from..top];
-    match outcome_of(function, operands, switch) {
+    let measured = any_measured(&marks[from..top]);
+    match outcome_of(function, operands, concrete_only(switch, measured)) {
         Outcome::WrongCount => Progress::refused(Refusal::WrongCount(at), past, stack, sheet),
         Outcome::NoneAfter(part, k) => {
             let operand = from + k;
@@ -51,7 +56,11 @@ pub(crate) fn type_call(
             let rule = chosen.rule;
             let converted = convert(operands, rule, sheet);
             let lined = converted.line(CALL_LINE, function, chosen.index, count);
-            let pushed = stack.cut(n).push(rule.result, at);
+            let result = Operand {
+                code: rule.result,
+                measured,
+            };
+            let pushed = stack.cut(n).push(result, at);
             Progress {
                 verdict: Verdict::Accepted,
                 at: past,

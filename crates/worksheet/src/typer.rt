@@ -1,4 +1,4 @@
-// The second pass over an expression, and the whole answer: the type of the expression and its worksheet, or the first refusal.
+// The second pass over an expression, and the whole answer: the operand that the expression makes and its worksheet, or the first refusal.
 //
 // Arguments are typed before their call, from left to right, so `type_node` and `type_arguments` call each other, as the two
 // readings of the first pass do. They run over bytes that the first pass accepted, which is why the stack of operands and the
@@ -14,7 +14,8 @@ use crate::one_call::type_call;
 use crate::progress::Progress;
 use crate::sheet::Sheet;
 use crate::stack::Stack;
-use expressions::LEAF;
+use expressions::CALL;
+use expressions::MEASURED_LEAF;
 use expressions::Read;
 use expressions::read_expression;
 use functions::FUNCTION_COUNT;
@@ -23,11 +24,12 @@ use machine::LEAF_LINE;
 use machine::SPARE;
 use scalars::Refusal;
 use scalars::Verdict;
+use types::Operand;
 
 // The answer to an expression.
 pub enum TypeAnswer {
-    // Accepted: its type, and how many bytes the worksheet takes, which stands in front of the lent buffer.
-    Typed { code: u8, len: usize },
+    // Accepted: the operand that it makes, and how many bytes the worksheet takes, which stands in front of the lent buffer.
+    Typed { result: Operand, len: usize },
     // The first fault. The lent buffer is as it was.
     Refused(Refusal),
 }
@@ -59,14 +61,14 @@ fn answer(root: Progress, out: &mut [u8]) -> TypeAnswer
         Verdict::Refused(why) => TypeAnswer::Refused(why),
         Verdict::Accepted => {
             let operands = root.stack;
-            let result = operands.types[0];
+            let result = operands.operand(0);
             let lines = root.sheet;
             let written = lines.bytes;
             let len = lines.len;
             match lend_bytes(&written[..len], out) {
                 Verdict::Refused(why) => TypeAnswer::Refused(why),
                 Verdict::Accepted => TypeAnswer::Typed {
-                    code: result,
+                    result: result,
                     len: len,
                 },
             }
@@ -81,9 +83,13 @@ fn type_node(bytes: &[u8], at: usize, switch: bool, stack: Stack, sheet: Sheet) 
 {
     let tag = bytes[at];
     let code = bytes[at + 1];
-    if tag == LEAF {
-        let pushed = stack.push(code, at);
-        let lined = sheet.line(LEAF_LINE, code, SPARE, SPARE);
+    if tag != CALL {
+        let leaf = Operand {
+            code,
+            measured: tag == MEASURED_LEAF,
+        };
+        let pushed = stack.push(leaf, at);
+        let lined = sheet.line(LEAF_LINE, code, leaf.mark(), SPARE);
         return Progress {
             verdict: Verdict::Accepted,
             at: at + 2,

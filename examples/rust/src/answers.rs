@@ -26,8 +26,15 @@ pub mod number {
     pub const UNKNOWN_RUN: u8 = 14;
     pub const MISPLACED: u8 = 15;
     pub const NUMBER_TYPE: u8 = 16;
+    pub const MEASURED_ABSTRACT: u8 = 17;
     /// That of a run that stopped.
     pub const STOPPED: u8 = 255;
+}
+
+/// The marks of operands and results.
+pub mod mark {
+    pub const CONSTANT: u8 = 0;
+    pub const MEASURED: u8 = 1;
 }
 
 /// The numbers of who gave the scalar of a consensus.
@@ -36,7 +43,8 @@ pub mod giver {
     pub const COMPONENT: u8 = 1;
 }
 
-/// A chosen rule, with its index in the function's full listing or among the rules handed in. The mark is kept free.
+/// A chosen rule, with its index in the function's full listing or among the rules handed in. The mark is that of a call's
+/// result, and 255 where no call was asked.
 #[repr(C)]
 #[derive(Clone, Copy, Debug, PartialEq, Eq)]
 pub struct ChosenAnswer {
@@ -83,7 +91,7 @@ pub struct ConsensusAnswer {
     pub place: usize,
 }
 
-/// The type of an expression, and the length of its worksheet in bytes. The mark is kept free.
+/// The type and the mark of an expression, and the length of its worksheet in bytes.
 #[repr(C)]
 #[derive(Clone, Copy, Debug, PartialEq, Eq)]
 pub struct TypeAnswer {
@@ -103,7 +111,8 @@ pub struct TextAnswer {
     pub place: usize,
 }
 
-/// How a worksheet ran: to its end, or, with number 255, to the line that is the place. The mark is kept free.
+/// How a worksheet ran: to its end, with the type and the mark of the topmost operand, 255 where there is none, or, with
+/// number 255, to the line that is the place.
 #[repr(C)]
 #[derive(Clone, Copy, Debug, PartialEq, Eq)]
 pub struct RunAnswer {
@@ -122,7 +131,7 @@ pub struct MaskAnswer {
     pub place: usize,
 }
 
-/// A refusal: its number, 1 to 16, and its place.
+/// A refusal: its number, 1 to 17, and its place.
 #[derive(Clone, Copy, Debug, PartialEq, Eq)]
 pub struct Refusal {
     pub number: u8,
@@ -136,11 +145,19 @@ pub struct Rule {
     pub result: u8,
 }
 
-/// A rule and its index.
+/// A rule and its index, and whether the result of a call by it is measured; none where no call was asked.
 #[derive(Clone, Debug, PartialEq, Eq)]
 pub struct Chosen {
     pub index: u8,
     pub rule: Rule,
+    pub measured: Option<bool>,
+}
+
+/// An operand, or what an expression results in: a type, and whether it is measured.
+#[derive(Clone, Copy, Debug, PartialEq, Eq)]
+pub struct Operand {
+    pub type_code: u8,
+    pub measured: bool,
 }
 
 /// A Regular set made by hand, by its parts.
@@ -171,8 +188,8 @@ pub enum Giver {
 /// How a worksheet ran on the strict machine.
 #[derive(Clone, Copy, Debug, PartialEq, Eq)]
 pub enum Run {
-    /// To its end, with so many operands left and the type of the topmost.
-    Ended { operands: usize, top: Option<u8> },
+    /// To its end, with so many operands left, and the topmost.
+    Ended { operands: usize, top: Option<Operand> },
     /// It stopped at this line, counted from 0.
     Stopped { line: usize },
 }
@@ -180,7 +197,9 @@ pub enum Run {
 impl ChosenAnswer {
     pub fn unpack(self) -> Result<Chosen, Refusal> {
         accepted(self.number, self.place)?;
-        Ok(Chosen { index: self.index, rule: unpacked_rule(self.arguments, self.count, self.result) })
+        let rule = unpacked_rule(self.arguments, self.count, self.result);
+        let measured = (self.mark != NONE).then_some(self.mark == mark::MEASURED);
+        Ok(Chosen { index: self.index, rule, measured })
     }
 }
 
@@ -214,8 +233,8 @@ impl ConsensusAnswer {
 }
 
 impl TypeAnswer {
-    pub fn unpack(self) -> Result<u8, Refusal> {
-        accepted(self.number, self.place).map(|()| self.type_code)
+    pub fn unpack(self) -> Result<Operand, Refusal> {
+        accepted(self.number, self.place).map(|()| operand(self.type_code, self.mark))
     }
 }
 
@@ -230,7 +249,8 @@ impl RunAnswer {
         if self.number == number::STOPPED {
             Run::Stopped { line: self.place }
         } else {
-            Run::Ended { operands: self.operands, top: (self.operands > 0).then_some(self.top) }
+            let top = (self.operands > 0).then(|| operand(self.top, self.mark));
+            Run::Ended { operands: self.operands, top }
         }
     }
 }
@@ -248,6 +268,10 @@ fn accepted(number: u8, place: usize) -> Result<(), Refusal> {
     }
 }
 
+fn operand(type_code: u8, mark: u8) -> Operand {
+    Operand { type_code, measured: mark == mark::MEASURED }
+}
+
 fn unpacked_rule(arguments: [u8; 4], count: u8, result: u8) -> Rule {
     Rule { arguments: arguments[..usize::from(count)].to_vec(), result }
 }
@@ -261,8 +285,8 @@ impl fmt::Display for Refusal {
             number::NO_ARGUMENT => "some rule has no argument there",
             number::COUNT => "wrong number of arguments",
             number::SHAPE => "no rule is left with this argument's shape",
-            number::UNKNOWN => "unknown function, type, scalar, index, set bit or conclusion",
-            number::MALFORMED => "bytes cut short or left over, or an unknown tag",
+            number::UNKNOWN => "unknown function, type, mark, scalar, index, set bit or conclusion",
+            number::MALFORMED => "bytes cut short or left over, an unknown tag, or not as many marks as types",
             number::TOO_LARGE => "the expression has more than 64 nodes or is deeper than 16",
             number::ROOM => "what is to be written needs more room",
             number::NOTHING => "a consensus over nothing",
@@ -270,7 +294,10 @@ impl fmt::Display for Refusal {
             number::OUTSIDE => "the rule has no result",
             number::UNKNOWN_RUN => "no function or type has this name",
             number::MISPLACED => "the text is too long, or something in it is misplaced or missing",
-            _ => "rules are left with this argument's shape, and none with a number type that its own converts to",
+            number::NUMBER_TYPE => {
+                "rules are left with this argument's shape, and none with a number type that its own converts to"
+            }
+            _ => "a measured operand is abstract",
         };
         write!(f, "refusal {} at {}: {reason}", self.number, self.place)
     }

@@ -7,8 +7,8 @@ mod linked;
 mod sets;
 
 pub use answers::{
-    giver, number, Chosen, ChosenAnswer, Consensus, ConsensusAnswer, Giver, MaskAnswer, Refusal, Regular,
-    RegularAnswer, Rule, RuleAnswer, Run, RunAnswer, TextAnswer, TypeAnswer, NONE,
+    giver, mark, number, Chosen, ChosenAnswer, Consensus, ConsensusAnswer, Giver, MaskAnswer, Operand, Refusal,
+    Regular, RegularAnswer, Rule, RuleAnswer, Run, RunAnswer, TextAnswer, TypeAnswer, NONE,
 };
 pub use sets::List;
 
@@ -24,22 +24,26 @@ pub const ENOUGH_TEXT: usize = 1536;
 /// The bytes that suffice for the mask of any function's rules, or any List's.
 pub const ENOUGH_MASK: usize = 8;
 
-/// Resolves a call: the rule that `function` prefers for operands of these types.
+/// Resolves a call: the rule that `function` prefers for operands of these types and marks, and its result's mark.
 #[inline]
-pub fn call(function: u8, operands: &[u8], concrete_only: bool) -> ChosenAnswer {
-    // Safety: pointer and length are one slice's, which is only read.
-    unsafe { linked::azwukran_call(function, operands.as_ptr(), operands.len(), concrete_only.into()) }
+pub fn call(function: u8, types: &[u8], marks: &[u8], concrete_only: bool) -> ChosenAnswer {
+    // Safety: two slices with their lengths, which are only read.
+    unsafe {
+        linked::azwukran_call(function, types.as_ptr(), types.len(), marks.as_ptr(), marks.len(), concrete_only.into())
+    }
 }
 
 /// Writes the mask of the rules that survive the same call to the front of `out`.
 #[inline]
-pub fn survivors(function: u8, operands: &[u8], concrete_only: bool, out: &mut [u8]) -> MaskAnswer {
-    // Safety: two slices with their lengths, the second borrowed to be written.
+pub fn survivors(function: u8, types: &[u8], marks: &[u8], concrete_only: bool, out: &mut [u8]) -> MaskAnswer {
+    // Safety: three slices with their lengths, the last borrowed to be written.
     unsafe {
         linked::azwukran_survivors(
             function,
-            operands.as_ptr(),
-            operands.len(),
+            types.as_ptr(),
+            types.len(),
+            marks.as_ptr(),
+            marks.len(),
             concrete_only.into(),
             out.as_mut_ptr(),
             out.len(),
@@ -56,45 +60,45 @@ pub fn rule(function: u8, index: u8) -> RuleAnswer {
 /// The scalar on which components of these types agree, from a base scalar or `NONE`, and who gave it.
 #[inline]
 pub fn consensus(base: u8, components: &[u8]) -> ConsensusAnswer {
-    // Safety: as for `call`.
+    // Safety: pointer and length are one slice's, which is only read.
     unsafe { linked::azwukran_consensus(base, components.as_ptr(), components.len()) }
 }
 
 /// Types an expression and writes its worksheet to the front of `out`.
 #[inline]
 pub fn type_expression(bytes: &[u8], concrete_only: bool, out: &mut [u8]) -> TypeAnswer {
-    // Safety: as for `survivors`.
+    // Safety: two slices with their lengths, the second borrowed to be written.
     unsafe { linked::azwukran_type(bytes.as_ptr(), bytes.len(), concrete_only.into(), out.as_mut_ptr(), out.len()) }
 }
 
 /// Reads an expression's text and writes its bytes to the front of `out`.
 #[inline]
 pub fn read_text(text: &[u8], out: &mut [u8]) -> TextAnswer {
-    // Safety: as for `survivors`.
+    // Safety: as for `type_expression`.
     unsafe { linked::azwukran_read_text(text.as_ptr(), text.len(), out.as_mut_ptr(), out.len()) }
 }
 
 /// Writes an expression's text to the front of `out`.
 #[inline]
 pub fn write_text(bytes: &[u8], out: &mut [u8]) -> TextAnswer {
-    // Safety: as for `survivors`.
+    // Safety: as for `type_expression`.
     unsafe { linked::azwukran_write_text(bytes.as_ptr(), bytes.len(), out.as_mut_ptr(), out.len()) }
 }
 
 /// Runs a worksheet on the strict machine.
 #[inline]
 pub fn run(sheet: &[u8]) -> RunAnswer {
-    // Safety: as for `call`.
+    // Safety: as for `consensus`.
     unsafe { linked::azwukran_run(sheet.as_ptr(), sheet.len()) }
 }
 
-/// An expression's type and its worksheet.
-pub fn worksheet(bytes: &[u8], concrete_only: bool) -> Result<(u8, Vec<u8>), Refusal> {
+/// An expression's type and mark, and its worksheet.
+pub fn worksheet(bytes: &[u8], concrete_only: bool) -> Result<(Operand, Vec<u8>), Refusal> {
     let mut sheet = vec![0; ENOUGH_ROOM];
     let answer = type_expression(bytes, concrete_only, &mut sheet);
-    let type_code = answer.unpack()?;
+    let result = answer.unpack()?;
     sheet.truncate(answer.length);
-    Ok((type_code, sheet))
+    Ok((result, sheet))
 }
 
 /// The bytes of an expression's text.

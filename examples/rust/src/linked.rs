@@ -6,11 +6,20 @@ use crate::answers::{
 };
 
 unsafe extern "C" {
-    pub fn azwukran_call(function: u8, operands: *const u8, n: usize, concrete_only: u8) -> ChosenAnswer;
+    pub fn azwukran_call(
+        function: u8,
+        types: *const u8,
+        n: usize,
+        marks: *const u8,
+        m: usize,
+        concrete_only: u8,
+    ) -> ChosenAnswer;
     pub fn azwukran_survivors(
         function: u8,
-        operands: *const u8,
+        types: *const u8,
         n: usize,
+        marks: *const u8,
+        m: usize,
         concrete_only: u8,
         out: *mut u8,
         room: usize,

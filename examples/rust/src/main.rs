@@ -1,7 +1,10 @@
 //! Asks the library questions of each kind by way of the safe functions, and prints the answers. examples/c prints the
 //! same lines from C; examples/run builds both, runs them and compares.
 
-use azwukran::{number, Chosen, Consensus, Giver, List, Refusal, Regular, Rule, Run, ENOUGH_MASK, ENOUGH_TEXT, NONE};
+use azwukran::mark::{CONSTANT, MEASURED};
+use azwukran::{
+    number, Chosen, Consensus, Giver, List, Operand, Refusal, Regular, Rule, Run, ENOUGH_MASK, ENOUGH_TEXT, NONE,
+};
 
 // Functions and types by number.
 const CLAMP: u8 = 4;
@@ -29,12 +32,15 @@ const LINE: usize = 4;
 const FILL: u8 = 165;
 
 fn main() {
-    show_call("Clamp", CLAMP, &[ABSTRACT_INT, U32, ABSTRACT_INT], false);
-    show_call("Sin", SIN, &[ABSTRACT_INT], false);
-    show_call("Sin", SIN, &[ABSTRACT_INT], true);
-    show_call("Mix", MIX, &[F32, F32, F32], false);
-    show_call("Pow", POW, &[F32, F16], false);
-    show_call("Pow", POW, &[F32, VEC2_F32], false);
+    show_call("Clamp", CLAMP, &[ABSTRACT_INT, U32, ABSTRACT_INT], &[CONSTANT; 3], false);
+    show_call("Sin", SIN, &[ABSTRACT_INT], &[CONSTANT], false);
+    show_call("Sin", SIN, &[ABSTRACT_INT], &[CONSTANT], true);
+    show_call("Mix", MIX, &[F32, F32, F32], &[CONSTANT; 3], false);
+    show_call("Pow", POW, &[F32, F16], &[CONSTANT; 2], false);
+    show_call("Pow", POW, &[F32, VEC2_F32], &[CONSTANT; 2], false);
+    show_call("Clamp", CLAMP, &[F32, ABSTRACT_INT, ABSTRACT_FLOAT], &[MEASURED, CONSTANT, CONSTANT], false);
+    show_call("Pow", POW, &[F32, ABSTRACT_INT], &[MEASURED; 2], false);
+    show_call("Pow", POW, &[F32, ABSTRACT_INT], &[MEASURED], false);
     show_rule("Transpose", TRANSPOSE, 4);
     show_rule("Transpose", TRANSPOSE, 36);
     show_consensus(NONE, &[ABSTRACT_INT, F32, ABSTRACT_FLOAT]);
@@ -43,15 +49,20 @@ fn main() {
     show_consensus(ABSTRACT_INT, &[ABSTRACT_INT, U32, U32]);
     show_expression(&[1, CLAMP, 3, 0, ABSTRACT_INT, 0, U32, 0, ABSTRACT_INT]);
     show_expression(&[1, POW, 2, 1, DISTANCE, 2, 0, ABSTRACT_FLOAT, 0, ABSTRACT_FLOAT, 0, F16]);
+    show_expression(&[1, CLAMP, 3, 2, F32, 0, ABSTRACT_INT, 0, ABSTRACT_FLOAT]);
+    show_expression(&[1, SIN, 1, 2, ABSTRACT_FLOAT]);
     show_text("clamp(abstract-int, u32, abstract-int)");
     show_text(" mix ( vec2<f32>,vec2<f32>,f32 ) ");
     show_text("sin()");
     show_text("Sin(f32)");
     show_text("sin(f32,)");
     show_text("sin(f32");
+    show_text("pow( measured  f32,abstract-int)");
+    show_text("sin(measured)");
     show_text(&("sin(".repeat(DEEPEST) + "f32"));
     show_written("no leaf", &[0, NO_LEAF], ENOUGH_TEXT);
     show_written("cut short", &[1, SIN], ENOUGH_TEXT);
+    show_written("measured and abstract", &[2, ABSTRACT_INT], ENOUGH_TEXT);
     // Pow's rules: two arguments of one type, scalar or vector, of a float.
     show_regular(Regular { arity: 2, constructors: 0b1111, scalars: 0b111_0000_0010, conclusion: 0 });
     show_list("Mix", MIX);
@@ -74,16 +85,26 @@ fn rule_text(rule: &Rule) -> String {
     format!("{} -> {}", listed(&rule.arguments), rule.result)
 }
 
-/// A call and the rules that survive it.
-fn show_call(name: &str, function: u8, operands: &[u8], concrete_only: bool) {
+/// A mark in words; none where there is no operand.
+fn mark_text(measured: Option<bool>) -> &'static str {
+    match measured {
+        Some(true) => "measured",
+        Some(false) => "constant",
+        None => "none",
+    }
+}
+
+/// A call of operands of these types and marks, and the rules that survive it.
+fn show_call(name: &str, function: u8, types: &[u8], marks: &[u8], concrete_only: bool) {
     let answer = || {
-        let Chosen { index, rule } = azwukran::call(function, operands, concrete_only).unpack()?;
+        let Chosen { index, rule, measured } = azwukran::call(function, types, marks, concrete_only).unpack()?;
         let mut mask = [0; ENOUGH_MASK];
-        azwukran::survivors(function, operands, concrete_only, &mut mask).unpack()?;
-        Ok(format!("rule {index}, {}; survivors {}", rule_text(&rule), listed(&azwukran::members(&mask))))
+        azwukran::survivors(function, types, marks, concrete_only, &mut mask).unpack()?;
+        let survivors = listed(&azwukran::members(&mask));
+        Ok(format!("rule {index}, {}, {}; survivors {survivors}", rule_text(&rule), mark_text(measured)))
     };
     let switch = if concrete_only { ", concrete only" } else { "" };
-    show(&format!("{name} of {}{switch}", listed(operands)), answer());
+    show(&format!("{name} of {}, marks {}{switch}", listed(types), listed(marks)), answer());
 }
 
 fn show_rule(name: &str, function: u8, index: u8) {
@@ -101,12 +122,13 @@ fn show_consensus(base: u8, components: &[u8]) {
     show(&format!("consensus of {}, base {base}", listed(components)), answer.map(text));
 }
 
-/// An expression's type, its worksheet, and how that runs, whole and without its first line.
+/// An expression's type and mark, its worksheet, and how that runs, whole and without its first line.
 fn show_expression(bytes: &[u8]) {
     let question = format!("expression {}", listed(bytes));
     match azwukran::worksheet(bytes, false) {
-        Ok((type_code, sheet)) => {
-            show(&question, Ok(format!("type {type_code}, worksheet of {} bytes", sheet.len())));
+        Ok((Operand { type_code, measured }, sheet)) => {
+            let mark = mark_text(Some(measured));
+            show(&question, Ok(format!("type {type_code}, {mark}, worksheet of {} bytes", sheet.len())));
             for line in sheet.chunks(LINE) {
                 println!("  {}", listed(line));
             }
@@ -119,7 +141,11 @@ fn show_expression(bytes: &[u8]) {
 
 fn show_run(question: &str, sheet: &[u8]) {
     match azwukran::run(sheet).unpack() {
-        Run::Ended { operands, top } => println!("{question}: ended, operands {operands}, top {}", top.unwrap_or(NONE)),
+        Run::Ended { operands, top } => {
+            let type_code = top.map_or(NONE, |operand| operand.type_code);
+            let mark = mark_text(top.map(|operand| operand.measured));
+            println!("{question}: ended, operands {operands}, top {type_code}, {mark}");
+        }
         Run::Stopped { line } => println!("{question}: stopped at line {line}"),
     }
 }

@@ -5,7 +5,7 @@ use Prim.Native.Nat.{ℕ, suc, _-_}
 use Rattle.scalars.specs.Paper as paper
 use Rattle.scalars.specs.Paper.{Paper}
 use Rattle.expressions.specs.declared.expression.Step.{Step}
-use Rattle.expressions.specs.declared.expression.Step.the-variants.{Past, Unknown, IllFormed, TooLarge}
+use Rattle.expressions.specs.declared.expression.Step.the-variants.{Past, Unknown, IllFormed, TooLarge, Abstract}
 use Rattle.expressions.specs.Tree.{deepest}
 use Rattle.expressions.specs.Reading.{Reading, done, refused}
 
@@ -15,6 +15,7 @@ stepPaper (Past at nodes) = paper.accepted (at ∷ nodes ∷ [])
 stepPaper (Unknown place) = paper.refusal 7 place []
 stepPaper (IllFormed place) = paper.refusal 8 place []
 stepPaper (TooLarge place) = paper.refusal 9 place []
+stepPaper (Abstract place) = paper.refusal 17 place []
 
 -- the same of a reading
 abbrev pub stepOf : {A : Type 0} → Reading A → Paper

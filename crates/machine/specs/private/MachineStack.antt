@@ -1,13 +1,15 @@
--- What the private functions of src/machine.rt answer. A stack there is an array of types with a count: the operands are its front, the
+-- What the private functions of src/machine.rt answer. A stack there is an array of operands with a count: the operands are its front, the
 -- topmost last, and a line leaves another stack or stops.
 use mathlib.Core.Path.{_≡_}
-use mathlib.Core.Bool.{Bool, true, false}
+use mathlib.Core.Bool.{Bool, true, false, not}
 use mathlib.Core.List.{List, reverse}
 use mathlib.Core.Option.{Option, none, some}
 use Prim.Native.Nat.{ℕ, _-_, _≤_}
 use lib.Dec.{leb}
 use lib.ListN.{length, take, drop}
 use Rattle.scalars.specs.Paper.{Paper}
+use Rattle.types.specs.Operand.{measuredAbstract}
+use Rattle.types.specs.declared.operand.Operand.{Operand}
 use Rattle.rules.specs.Rule.{argumentsOf}
 use Rattle.rules.specs.declared.rule.Rule.{Rule}
 use Rattle.machine.specs.declared.machine.Stack.{Stack}
@@ -18,38 +20,38 @@ use Rattle.machine.specs.Machine.{ended, mostOperands, same}
 use Rattle.machine.specs.private.TopLast.{pushLast}
 use Rattle.machine.specs.Run.{ranOf}
 
--- the types on a stack, the topmost last
-abbrev pub operandsOf : Stack → List ℕ
-operandsOf k = take (k .top) (k .types)
+-- the operands on a stack, the topmost last
+abbrev pub operandsOn : Stack → List Operand
+operandsOn k = take (k .top) (k .operands)
 
 -- there is room for 64 operands, and no more are counted
 pub record InBounds (k : Stack) : Type 0 where
-  pub long : length (k .types) ≡ mostOperands
+  pub long : length (k .operands) ≡ mostOperands
   pub few : k .top ≤ mostOperands
 
--- a stack of these types
-pub record Holds (s : List ℕ) (k : Stack) : Type 0 where
+-- a stack of these operands
+pub record Holds (s : List Operand) (k : Stack) : Type 0 where
   pub fits : InBounds k
-  pub types-are : operandsOf k ≡ s
+  pub operands-are : operandsOn k ≡ s
 
--- a line was done and left these types
-pub record Done (s : List ℕ) (r : Stepped) : Type 0 where
+-- a line was done and left these operands
+pub record Done (s : List Operand) (r : Stepped) : Type 0 where
   pub done-is : r .done ≡ true
   pub holds : Holds s (r .stack)
 
 -- what a line does to a stack, or that it stops
-abbrev pub Did : Option (List ℕ) → Stepped → Type 0
+abbrev pub Did : Option (List Operand) → Stepped → Type 0
 Did none r = r .done ≡ false
 Did (some s) r = Done s r
 
--- a leaf's line, behind the test of its spare bytes
-abbrev pub leafDone : ℕ → List ℕ → Option (List ℕ)
-leafDone t s = onlyIf (leb t lastLeaf) (pushLast t s)
+-- a leaf's line, behind the test of its mark and its spare byte
+abbrev pub leafDone : Operand → List Operand → Option (List Operand)
+leafDone o s = onlyIf (leb (o .code) lastLeaf) (onlyIf (not (measuredAbstract o)) (pushLast o s))
 
 -- the end of a run with this stack, whose top is last
-abbrev pub ranLast : List ℕ → Paper
+abbrev pub ranLast : List Operand → Paper
 ranLast s = ranOf (ended (reverse s))
 
 -- the topmost operands are exactly of the rule's types, from argument i on
 abbrev pub alikeFrom : ℕ → Stack → Rule → Bool
-alikeFrom i k q = same (drop i (drop (k .top - q .count) (operandsOf k))) (drop i (argumentsOf q))
+alikeFrom i k q = same (drop i (drop (k .top - q .count) (operandsOn k))) (drop i (argumentsOf q))

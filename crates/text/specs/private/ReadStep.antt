@@ -2,7 +2,7 @@
 -- of its tree on the strip, and with what its callers need to go on: the reading moves on, stays in the text, and passes at most 64 nodes.
 use Prim.Native.Nat.{ℕ, _+_, _*_, _≤_, _<_}
 use mathlib.Core.Path.{_≡_}
-use mathlib.Core.List.{List}
+use mathlib.Core.List.{List, [], _∷_}
 use lib.ListN.{length}
 use lib.Seq.{sets}
 use Rattle.scalars.specs.Refusal.{numbered}
@@ -12,11 +12,15 @@ use Rattle.expressions.specs.Reading.{Reading, done, refused}
 use Rattle.expressions.specs.private.Step.{levelsLeft}
 use Rattle.text.specs.declared.reader.Step.{Step}
 use Rattle.text.specs.declared.reader.Step.the-variants.{Past, Fault}
-use Rattle.text.specs.Reading.{argsAt, bracketsAt, nodeAt}
+use Rattle.text.specs.Reading.{argsAt, bracketsAt, measuredAt, nodeAt}
 
--- what the definition reads in lent names: a node at this depth, brackets whose nodes are at this depth, and arguments
+-- what the definition reads in lent names: a node at this depth, a measured leaf from behind `measured` on, brackets whose nodes are at this
+-- depth, and arguments
 abbrev pub nodeIn : List ℕ → List ℕ → List ℕ → ℕ → ℕ → ℕ → Reading Tree
 nodeIn names index s depth = nodeAt (wordIn names index) s (levelsLeft depth)
+
+abbrev pub measuredIn : List ℕ → List ℕ → List ℕ → ℕ → ℕ → Reading Tree
+measuredIn names index s = measuredAt (wordIn names index) s
 
 abbrev pub bracketsIn : List ℕ → List ℕ → List ℕ → ℕ → ℕ → ℕ → Reading Trees
 bracketsIn names index s depth = bracketsAt (wordIn names index) s (nodeIn names index s depth)
@@ -27,6 +31,17 @@ argsIn names index s depth = argsAt (wordIn names index) s (nodeIn names index s
 -- the strip has three bytes for each node of the limit, and what is written stays within those of the nodes passed
 abbrev pub StripRoom : ℕ → ℕ → Type 0
 StripRoom nodes made = (nodes ≤ mostNodes) × (made ≤ 3 * nodes)
+
+-- a leaf may follow so many nodes
+abbrev pub LeafRoom : ℕ → ℕ → Type 0
+LeafRoom nodes made = (nodes < mostNodes) × (made ≤ 3 * nodes)
+
+-- its two bytes on the strip, and how far the reading is then
+abbrev pub leafPut : List ℕ → ℕ → ℕ → ℕ → List ℕ
+leafPut strip made tag code = sets strip made (tag ∷ code ∷ [])
+
+abbrev pub leafStep : ℕ → ℕ → ℕ → Step
+leafStep end nodes made = Past end (nodes + 1) (made + 2) 1
 
 -- from the offset `at`, with n nodes before it and the strip written up to m: what is read, a node or arguments, whose bytes are `bytes` of
 -- it and whose number is `many` of it, and how far that is

@@ -20,7 +20,7 @@ functionIn names index f = spellingIn names index (typeCount + f)
 
 -- the strip has so many bytes for each node of the limit
 abbrev pub textRoom : ℕ
-textRoom = 24 * mostNodes
+textRoom = 33 * mostNodes
 
 -- a tree's bytes stand at the offset, and there is room for its text from m on
 pub record NodeThere (b names index : List ℕ) (at m : ℕ) : Type 0 where

@@ -12,8 +12,9 @@ print-sheet-requires : tie.Need-print-sheet-requires
 print-sheet-requires c κs =
     let there = c .before .before .before .before .before .before .before in
     let start = there .before .before .before .before .args in
-    let told = sym (ap typePaper (c .before .before .before .code .given .1)) ∙ there .type-expression .ensures .0 in
-    let fits = typed-fits (start .sheet .now) _ _ false (start .input .now) told in
+    let known = c .before .before .before .result .given in
+    let told = sym (ap typePaper (known .1)) ∙ there .type-expression .ensures .0 in
+    let fits = typed-fits (start .sheet .now) (known .0 .0) (known .0 .1 .0) false (start .input .now) told in
     omega arith
 
 pub answer-bytes-spec : {M : Type 1} → statement M

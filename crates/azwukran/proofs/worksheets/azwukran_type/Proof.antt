@@ -20,8 +20,11 @@ number-requires c κs = search needs
 place-requires : tie.Need-place-requires
 place-requires c κs = search needs
 
-enum-known-code : tie.Need-enum-known-code
-enum-known-code c = search needs
+enum-known-result : tie.Need-enum-known-result
+enum-known-result c = search needs
+
+mark-requires : tie.Need-mark-requires
+mark-requires c κs = search needs
 
 same-length : tie.Need-same-length
 same-length c = search needs
@@ -41,8 +44,8 @@ same-length-2 c = search needs
 returns-2 : tie.Need-returns-2
 unfolding typeForC
 returns-2 c =
-    let there = c .before .before .before .before .before in (
-      of-known typeForC typePaper refl (c .before .code .given .1) ∙ ap typeForC (there .type-expression .ensures .0),
+    let there = c .before .before .before .before .before .before in (
+      rw (c .mark .ensures) (of-known typeForC typePaper refl (c .before .before .result .given .1)) ∙ ap typeForC (there .type-expression .ensures .0),
       there .type-expression .ensures .1,
     )
 
@@ -54,7 +57,8 @@ azwukran-type-spec =
     enum-known-why
     number-requires
     place-requires
-    enum-known-code
+    enum-known-result
+    mark-requires
     same-length
     returns
     same-length-2

@@ -36,7 +36,7 @@ returns c =
     let there = c .before .before .before .before .before .before in
     let start = there .args in
     let told = set-told _ _ (c .before .before .before .before .function-set .ensures) (c .before .before .regular .given .1) in
-    c .call-regular .ensures ∙ ap (λ (rs : List Signature). answered (resolve (start .switch) rs (start .operands .now))) (sym (regular-listing (start .function) _ told))
+    c .call-regular .ensures ∙ ap (λ (rs : List Signature). answered (resolve (start .concrete) rs (start .operands .now))) (sym (regular-listing (start .function) _ told))
 
 returns-2 : tie.Need-returns-2
 returns-2 c =
@@ -44,7 +44,7 @@ returns-2 c =
     let start = there .before .before .args in
     let told = set-told _ _ (there .function-set .ensures) (c .before .before .before .listed .given .1) in
     c .call-list .ensures
-    ∙ ap (λ (rs : List Signature). answered (resolve (start .switch) rs (start .operands .now))) (list-listing (start .function) _ _ told (c .before .full-list .ensures))
+    ∙ ap (λ (rs : List Signature). answered (resolve (start .concrete) rs (start .operands .now))) (list-listing (start .function) _ _ told (c .before .full-list .ensures))
 
 pub outcome-of-spec : {M : Type 1} → statement M
 outcome-of-spec =

@@ -2,16 +2,15 @@
 -- Assumes nothing.
 use mathlib.Core.Path.{sym, ap, _∙_, subst}
 use mathlib.Core.List as L
-use mathlib.Core.List.{[], _∷_}
 use native.Mathlib.Omega.{arith}
 use Rattle.scalars.specs.Paper.{verdictPaper}
 use Rattle.rules.specs.Signature.{Signature}
 use Rattle.lists.specs.List.{signatures}
-use Rattle.calls.specs.Call.{survivorsOf, survivorsOfCall}
+use Rattle.calls.specs.Call.{survivorsOf}
 use Rattle.calls.specs.private.CallSets.{Full}
 use Rattle.calls.proofs.FunctionCalls.{listed-of, full-of}
 use Rattle.calls.proofs.ListCalls.{placed-of}
-use Rattle.calls.proofs.CallTests.{test-refused, test-passed}
+use Rattle.calls.proofs.CallTests.{refused-survivors, passed-survivors}
 use borrow.Author.Needs.{needs}
 use Rattle.calls.proofs.function_call.survivors_of.Statement.{statement}
 use Rattle.calls.proofs.function_call.survivors_of.Tie as tie
@@ -25,33 +24,42 @@ enum-known-why c = search needs
 enum-told : tie.Need-enum-told
 enum-told c = search needs
 
+any-measured-requires : tie.Need-any-measured-requires
+any-measured-requires c κs = search needs
+
+concrete-only-requires : tie.Need-concrete-only-requires
+concrete-only-requires c κs = search needs
+
 rules-of-requires : tie.Need-rules-of-requires
 rules-of-requires c κs = search needs
 
 stepped-requires : tie.Need-stepped-requires
 stepped-requires c κs =
-    let there = c .before .before .before .before .before in
-    subst Full (sym (c .rules-of .ensures)) (full-of (there .args .function))
+    let start = c .before .before .before .before .before .before .before .before .args in
+    subst Full (sym (c .rules-of .ensures)) (full-of (start .function))
 
 surviving-requires : tie.Need-surviving-requires
 surviving-requires c κs =
-    let there = c .before .before .before .before .before .before in
-    placed-of (c .before .rules-of .result) (there .args .operands .now) (c .stepped .result) (c .stepped .ensures .bounded) (omega arith)
+    let start = c .before .before .before .before .before .before .before .before .before .args in
+    placed-of (c .before .rules-of .result) (start .types .now) (c .stepped .result) (c .stepped .ensures .bounded) (omega arith)
 
 returns : tie.Need-returns
-unfolding survivorsOfCall
 returns c =
-    let there = c .before .before .before .before .before in
-    test-refused (there .args .function) _ (0 ∷ []) _ (c .before .why .given .0 .0) (sym (c .before .before .before .known .ensures) ∙ ap verdictPaper (c .before .why .given .1))
+    let there = c .before .before .before in
+    let start = there .before .before .before .args in
+    refused-survivors (start .switch) (start .function) _ _ (c .before .why .given .0 .0) (sym (there .known .ensures) ∙ ap verdictPaper (c .before .why .given .1))
 
 returns-2 : tie.Need-returns-2
-unfolding survivorsOfCall
 returns-2 c =
-    let there = c .before .before .before .before .before in
-    let start = there .before .before .args in
-    c .surviving .ensures ∙ c .before .stepped .ensures .survivors
-    ∙ ap (λ (rs : L.List Signature). survivorsOf (start .switch) rs (start .operands .now)) (ap signatures (c .before .before .rules-of .ensures) ∙ listed-of (start .function))
-    ∙ test-passed (start .function) _ (0 ∷ []) _ (sym (there .known .ensures) ∙ ap verdictPaper (c .before .before .before .enum-told .given .1))
+    let steps = c .before in
+    let asked = steps .before .before .before in
+    let there = asked .before .before .before in
+    let start = there .before .before .before .args in
+    let listing = ap signatures (steps .before .rules-of .ensures) ∙ listed-of (start .function) in
+    c .surviving .ensures ∙ steps .stepped .ensures .survivors
+    ∙ ap (λ (rs : L.List Signature). survivorsOf (steps .before .before .concrete-only .result) rs (start .types .now)) listing
+    ∙ passed-survivors (start .switch) (start .function) _ _ (sym (there .known .ensures) ∙ ap verdictPaper (asked .before .enum-told .given .1))
+    (asked .any-measured .ensures) (steps .before .before .concrete-only .ensures)
 
 pub survivors-of-spec : {M : Type 1} → statement M
 survivors-of-spec =
@@ -60,6 +68,8 @@ survivors-of-spec =
     known-requires
     enum-known-why
     enum-told
+    any-measured-requires
+    concrete-only-requires
     rules-of-requires
     stepped-requires
     surviving-requires

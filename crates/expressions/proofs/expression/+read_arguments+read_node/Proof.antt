@@ -57,7 +57,7 @@ module _ (t : ℕ) where
 
   arguments-read-arguments-requires : arguments.Need-read-arguments-requires arguments-claims arguments-at read-arguments.Post
   arguments-read-arguments-requires c κs =
-      let moved = Steps.node-moves _ _ _ _ _ _ _ (sym (ap stepPaper (c .before .one4 .given .1)) ∙ c .before .before .before .read-node .ensures) in
+      let moved = Steps.node-moves _ _ _ _ _ _ _ (sym (ap stepPaper (c .before .one5 .given .1)) ∙ c .before .before .before .read-node .ensures) in
       (omega (arith, c .before .before .before .before .before .before .pre .0), tt)
 
   arguments-returns-2 : arguments.Need-returns-2 arguments-claims arguments-at read-arguments.Post
@@ -77,9 +77,14 @@ module _ (t : ℕ) where
 
   arguments-returns-5 : arguments.Need-returns-5 arguments-claims arguments-at read-arguments.Post
   arguments-returns-5 c =
+      Steps.args-fault _ _ _ _ (c .before .before .before .before .if1 .left) _ _
+      (sym (ap stepPaper (c .before .one4 .given .1)) ∙ c .before .before .before .read-node .ensures)
+
+  arguments-returns-6 : arguments.Need-returns-6 arguments-claims arguments-at read-arguments.Post
+  arguments-returns-6 c =
       c .read-arguments .ensures
       ∙ Steps.args-others _ _ _ _ (c .before .before .before .before .before .if1 .left) _ _
-      (sym (ap stepPaper (c .before .before .one4 .given .1)) ∙ c .before .before .before .before .read-node .ensures)
+      (sym (ap stepPaper (c .before .before .one5 .given .1)) ∙ c .before .before .before .before .read-node .ensures)
 
   node-returns : node.Need-returns node-claims node-at read-node.Post
   node-returns c = Steps.no-tag _ _ _ _ _ (c .if1 .taken)
@@ -122,7 +127,12 @@ module _ (t : ℕ) where
 
   node-returns-9 : node.Need-returns-9 node-claims node-at read-node.Post
   node-returns-9 c =
-      Steps.unknown-tag _ _ _ _ _ (omega arith) (omega arith) (omega arith) (λ e. omega arith) (λ e. omega arith)
+      c .read-leaf2 .ensures
+      ∙ Steps.measured-node _ _ _ _ _ (omega arith) (omega arith) (omega arith) (omega arith)
+
+  node-returns-10 : node.Need-returns-10 node-claims node-at read-node.Post
+  node-returns-10 c =
+      Steps.unknown-tag _ _ _ _ _ (omega arith) (omega arith) (omega arith) (λ e. omega arith) (λ e. omega arith) (λ e. omega arith)
 
 pub +read-arguments+read-node-spec : {M : Type 1} → statement M
 +read-arguments+read-node-spec =
@@ -140,11 +150,13 @@ pub +read-arguments+read-node-spec : {M : Type 1} → statement M
     (search needs)
     (search needs)
     (search needs)
+    (search needs)
     (arguments-read-arguments-requires t)
     (arguments-returns-2 t)
     (arguments-returns-3 t)
     (arguments-returns-4 t)
-    (arguments-returns-5 t))
+    (arguments-returns-5 t)
+    (arguments-returns-6 t))
     (λ t. node.spec
     (node-claims t)
     (node-at t)
@@ -168,4 +180,6 @@ pub +read-arguments+read-node-spec : {M : Type 1} → statement M
     (search needs)
     (node-read-arguments-requires t)
     (node-returns-8 t)
-    (node-returns-9 t))
+    (λ c κs. search needs)
+    (node-returns-9 t)
+    (node-returns-10 t))

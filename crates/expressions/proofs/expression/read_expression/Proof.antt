@@ -11,7 +11,7 @@ use Rattle.expressions.proofs.expression.read_expression.Tie as tie
 returns : tie.Need-returns
 returns c =
     expression-over _ _ _ _
-    (sym (ap stepPaper (c .before .before .root4 .given .1)) ∙ c .before .before .before .before .read-node .ensures) (c .if1 .taken)
+    (sym (ap stepPaper (c .before .before .root5 .given .1)) ∙ c .before .before .before .before .read-node .ensures) (c .if1 .taken)
 
 returns-2 : tie.Need-returns-2
 returns-2 c = expression-fault _ _ _ _ (sym (ap stepPaper (c .before .root .given .1)) ∙ c .before .before .before .read-node .ensures)
@@ -23,11 +23,14 @@ returns-4 : tie.Need-returns-4
 returns-4 c = expression-fault _ _ _ _ (sym (ap stepPaper (c .before .root3 .given .1)) ∙ c .before .before .before .read-node .ensures)
 
 returns-5 : tie.Need-returns-5
-returns-5 c =
+returns-5 c = expression-fault _ _ _ _ (sym (ap stepPaper (c .before .root4 .given .1)) ∙ c .before .before .before .read-node .ensures)
+
+returns-6 : tie.Need-returns-6
+returns-6 c =
     expression-whole _ _ _ _
-    (sym (ap stepPaper (c .before .before .root4 .given .1)) ∙ c .before .before .before .before .read-node .ensures) (c .if1 .left)
+    (sym (ap stepPaper (c .before .before .root5 .given .1)) ∙ c .before .before .before .before .read-node .ensures) (c .if1 .left)
 
 pub read-expression-spec : {M : Type 1} → statement M
 read-expression-spec =
     tie.close
-    (tie.spec (λ c κs. search needs) (search needs) (search needs) (search needs) (search needs) returns returns-2 returns-3 returns-4 returns-5)
+    (tie.spec (λ c κs. search needs) (search needs) (search needs) (search needs) (search needs) (search needs) returns returns-2 returns-3 returns-4 returns-5 returns-6)

@@ -2,7 +2,7 @@
 -- Assumes nothing.
 use mathlib.Core.Path.{sym, _∙_}
 use borrow.Author.Tests.{not-true, not-false}
-use Rattle.machine.proofs.Stacks.{apply-miscounted, apply-short, apply-unlike, applied}
+use Rattle.machine.proofs.Stacks.{apply-miscounted, apply-short, apply-unlike, apply-abstract, applied}
 use borrow.Author.Needs.{needs}
 use Rattle.machine.proofs.machine.apply.Statement.{statement}
 use Rattle.machine.proofs.machine.apply.Tie as tie
@@ -17,25 +17,40 @@ returns-2 c =
     let start = c .before .before .before .before in
     apply-short _ (start .pre .0) _ (start .pre .1) _ (c .before .before .if1 .left) (c .if2 .taken)
 
-matches-requires : tie.Need-matches-requires
-matches-requires c κs = search needs
-
 returns-3 : tie.Need-returns-3
 returns-3 c =
     let start = c .before .before .before .before .before .before in
     apply-unlike _ (start .pre .0) _ (start .pre .1) _ (c .before .before .before .before .if1 .left) (c .before .before .if2 .left)
     (sym (c .before .matches .ensures) ∙ not-true _ (c .if3 .taken))
 
-push-requires : tie.Need-push-requires
-push-requires c κs = search needs
-
 returns-4 : tie.Need-returns-4
 returns-4 c =
-    let start = c .before .before .before .before .before .before .before .before .before in
-    let matched = c .before .before .before .before in
-    applied _ (start .pre .0) _ (start .pre .1) _ (matched .before .before .before .if1 .left) (matched .before .if2 .left) (c .push .result)
-    (sym (matched .matches .ensures) ∙ not-false _ (c .before .before .before .if3 .left)) (c .push .ensures)
+    let matched = c .before .before .before .before .before in
+    let start = matched .before .before .before .before .before in
+    let abstract = apply-abstract _ (start .pre .0) _ (start .pre .1) _ (matched .before .before .before .if1 .left) in
+    abstract (matched .before .if2 .left) (sym (matched .matches .ensures) ∙ not-false _ (c .before .before .before .before .if3 .left))
+    _ (c .before .before .any-measured-above .ensures) (sym (c .before .agrees .ensures) ∙ not-true _ (c .if4 .taken))
+
+returns-5 : tie.Need-returns-5
+returns-5 c =
+    let agreed = c .before .before .before .before in
+    let matched = agreed .before .before .before .before in
+    let start = matched .before .before .before .before .before in
+    let done = applied _ (start .pre .0) _ (start .pre .1) _ (matched .before .before .before .if1 .left) in
+    done (matched .before .if2 .left) (sym (matched .matches .ensures) ∙ not-false _ (agreed .before .before .before .if3 .left))
+    _ (agreed .before .any-measured-above .ensures) (c .push .result)
+    (sym (agreed .agrees .ensures) ∙ not-false _ (c .before .before .before .if4 .left)) (c .push .ensures)
 
 pub apply-spec : {M : Type 1} → statement M
 apply-spec =
-    tie.close (tie.spec returns returns-2 matches-requires returns-3 push-requires returns-4)
+    tie.close
+    (tie.spec
+    returns
+    returns-2
+    (λ c κs. search needs)
+    returns-3
+    (λ c κs. search needs)
+    (λ c κs. search needs)
+    returns-4
+    (λ c κs. search needs)
+    returns-5)

@@ -1,7 +1,7 @@
 -- `do_line` does the line that the four bytes spell, by its tag: each way through the function is a law of proofs/LinesDone.antt.
 -- Assumes nothing.
 use Rattle.functions.specs.Functions.{listingOf}
-use Rattle.machine.proofs.LinesDone.{leaf-spare, leaf-spare-last, leaf-line, call-line, conversion-spare, conversion-line, unknown-line}
+use Rattle.machine.proofs.LinesDone.{leaf-unmarked, leaf-spare, leaf-line, call-line, conversion-spare, conversion-line, unknown-line}
 use borrow.Author.Needs.{needs}
 use Rattle.machine.proofs.machine.do_line.Statement.{statement}
 use Rattle.machine.proofs.machine.do_line.Tie as tie
@@ -9,24 +9,19 @@ use Rattle.machine.proofs.machine.do_line.Tie as tie
 returns : tie.Need-returns
 returns c =
     let a = c .before .before .args in
-    leaf-spare listingOf (a .tag) (a .x) (a .y) (a .z) (a .stack) (c .before .if1 .taken) (c .if2 .taken)
+    leaf-unmarked listingOf (a .tag) (a .x) (a .y) (a .z) (a .stack) (c .before .if1 .taken) (c .if2 .taken)
 
 returns-2 : tie.Need-returns-2
 returns-2 c =
     let a = c .before .before .before .args in
-    leaf-spare-last listingOf (a .tag) (a .x) (a .y) (a .z) (a .stack) (c .before .before .if1 .taken) (c .before .if2 .left) (c .if3 .taken)
-
-leaf-requires : tie.Need-leaf-requires
-leaf-requires c κs = search needs
+    leaf-spare listingOf (a .tag) (a .x) (a .y) (a .z) (a .stack) (c .before .before .if1 .taken) (c .before .if2 .left) (c .if3 .taken)
 
 returns-3 : tie.Need-returns-3
 returns-3 c =
-    let a = c .before .before .before .before .args in
-    leaf-line listingOf (a .tag) (a .x) (a .y) (a .z) (a .stack) (c .before .before .before .if1 .taken) (c .before .before .if2 .left)
-    (c .leaf .result) (c .before .if3 .left) (c .leaf .ensures)
-
-call-requires : tie.Need-call-requires
-call-requires c κs = search needs
+    let a = c .before .before .before .before .before .args in
+    leaf-line listingOf (a .tag) (a .x) (a .y) (a .z) (a .stack) (c .before .before .before .before .if1 .taken)
+    (c .before .before .before .if2 .left) (c .before .of .result) (c .leaf .result) (c .before .before .if3 .left) (c .before .of .ensures)
+    (c .leaf .ensures)
 
 returns-4 : tie.Need-returns-4
 returns-4 c =
@@ -37,9 +32,6 @@ returns-5 : tie.Need-returns-5
 returns-5 c =
     let a = c .before .before .before .before .args in
     conversion-spare listingOf (a .tag) (a .x) (a .y) (a .z) (a .stack) (c .before .if5 .taken) (c .if6 .taken)
-
-convert-requires : tie.Need-convert-requires
-convert-requires c κs = search needs
 
 returns-6 : tie.Need-returns-6
 returns-6 c =
@@ -59,11 +51,12 @@ do-line-spec =
     (tie.spec
     returns
     returns-2
-    leaf-requires
+    (λ c κs. search needs)
+    (λ c κs. search needs)
     returns-3
-    call-requires
+    (λ c κs. search needs)
     returns-4
     returns-5
-    convert-requires
+    (λ c κs. search needs)
     returns-6
     returns-7)

@@ -27,11 +27,14 @@ sub-first c = search needs
 loop-holds : tie.Need-loop-holds Inv-loop μ-loop
 loop-holds c = (omega arith, refl)
 
-add-is-exactly : tie.Need-add-is-exactly Inv-loop μ-loop
-add-is-exactly c = search needs
+add-operand : tie.Need-add-operand Inv-loop μ-loop
+add-operand c = search needs
 
-element-copy-out-is-exactly : tie.Need-element-copy-out-is-exactly Inv-loop μ-loop
-element-copy-out-is-exactly c = search needs
+mul-operand : tie.Need-mul-operand Inv-loop μ-loop
+mul-operand c = search needs
+
+element-copy-out-operand : tie.Need-element-copy-out-operand Inv-loop μ-loop
+element-copy-out-operand c = search needs
 
 argument-requires : tie.Need-argument-requires Inv-loop μ-loop
 argument-requires c κs = search needs
@@ -79,8 +82,9 @@ matches-spec =
     cast-count
     sub-first
     loop-holds
-    add-is-exactly
-    element-copy-out-is-exactly
+    add-operand
+    mul-operand
+    element-copy-out-operand
     argument-requires
     is-exactly-requires
     returns

@@ -9,7 +9,7 @@ use lib.ListN.{length, drop}
 use borrow.Author.Tests.{not-true, not-false}
 use Rattle.functions.specs.Functions.{listingOf}
 use Rattle.machine.specs.Line.{linesOf}
-use Rattle.machine.specs.private.MachineStack.{operandsOf, InBounds}
+use Rattle.machine.specs.private.MachineStack.{operandsOn, InBounds}
 use Rattle.machine.proofs.TopLast.{runLast}
 use Rattle.machine.proofs.Outcomes.{run-starts, run-ended, run-partial, run-stopped, run-next}
 use borrow.Author.Needs.{needs}
@@ -19,7 +19,7 @@ use Rattle.machine.proofs.machine.run_worksheet.Tie as tie
 abbrev Inv-loop : tie.InvT-loop
 Inv-loop sheet stack₀ at₀ line₀ stack at line =
     (at ≤ length sheet) × (line ≤ at) × InBounds stack
-    × (runLast listingOf (linesOf (drop at sheet)) line (operandsOf stack) ≡ runLast listingOf (linesOf sheet) 0 [])
+    × (runLast listingOf (linesOf (drop at sheet)) line (operandsOn stack) ≡ runLast listingOf (linesOf sheet) 0 [])
 
 abbrev μ-loop : tie.MeasureT-loop
 μ-loop sheet stack₀ at₀ line₀ stack at line = length sheet - at
@@ -30,7 +30,7 @@ no-operands-requires c κs = search needs
 loop-holds : tie.Need-loop-holds Inv-loop μ-loop
 loop-holds c =
     let empty = c .no-operands .ensures in
-    (omega arith, omega arith, empty .fits, run-starts listingOf (c .before .before .args .sheet .now) _ (empty .types-are))
+    (omega arith, omega arith, empty .fits, run-starts listingOf (c .before .before .args .sheet .now) _ (empty .operands-are))
 
 sub-if1 : tie.Need-sub-if1 Inv-loop μ-loop
 sub-if1 c = omega arith
@@ -70,7 +70,7 @@ returns-2 c =
     let sheet = there .before .before .before .args .sheet .now in
     let loop = there .loop in
     let line = c .before .before .do-line in
-    run-stopped listingOf sheet (loop .at) (loop .line) (operandsOf (loop .stack)) (loop .inv .3) (omega arith) (line .result)
+    run-stopped listingOf sheet (loop .at) (loop .line) (operandsOn (loop .stack)) (loop .inv .3) (omega arith) (line .result)
     (line .ensures) (not-true _ (c .if2 .taken))
 
 add-at : tie.Need-add-at Inv-loop μ-loop
@@ -88,7 +88,7 @@ loop-again c =
     let sheet = there .before .before .before .args .sheet .now in
     let loop = there .loop in
     let line = c .before .before .before .do-line in
-    let next = run-next listingOf sheet (loop .at) (loop .line) (operandsOf (loop .stack)) (loop .inv .3) (omega arith) (line .result)
+    let next = run-next listingOf sheet (loop .at) (loop .line) (operandsOn (loop .stack)) (loop .inv .3) (omega arith) (line .result)
     (line .ensures) (not-false _ (c .before .if2 .left)) in
     (omega arith, omega arith, next .0, next .1)
 

@@ -12,6 +12,7 @@ use borrow.Fn.PlainCycle.{Measures, is, falls, and}
 use lib.ListN.{length}
 use Rattle.names.specs.WordPaper.{wordPaper}
 use Rattle.names.proofs.WordPapers.{type-is, function-is, unknown-is}
+use Rattle.names.proofs.is_measured.Reads as is-measured
 use Rattle.names.proofs.word_of.Reads as word-of
 use Rattle.text.proofs.Tokens.{placed}
 use Rattle.text.proofs.ReaderSteps as steps
@@ -24,6 +25,8 @@ use Rattle.text.proofs.reader.+read_arguments+read_brackets+read_node.L
 use Rattle.text.proofs.reader.read_node.Reads as read-node
 use Rattle.text.proofs.reader.read_node.Kinds as read-node-kinds
 use Rattle.text.proofs.reader.+read_arguments+read_brackets+read_node.Lts-read_node as node
+use Rattle.text.proofs.reader.put_leaf.Reads as put-leaf
+use Rattle.text.proofs.reader.read_measured.Reads as read-measured
 use Rattle.text.proofs.strip.put.Reads as put
 use Rattle.text.proofs.token.next_token.Reads as next-token
 use Rattle.text.proofs.token.place.Reads as place
@@ -68,8 +71,24 @@ module _ (t : ℕ) where
   brackets-claims = (next-token.Asked, next-token.Learnt, arguments-below, read-arguments.Post, place.Asked, place.Learnt)
 
   abbrev node-claims : node.Claims
-  node-claims =
-      (next-token.Asked, next-token.Learnt, word-of.Asked, word-of.Learnt, put.Asked, put.Learnt, brackets-below, read-brackets.Post, place.Asked, place.Learnt)
+  node-claims = (
+    next-token.Asked,
+    next-token.Learnt,
+    is-measured.Asked,
+    is-measured.Learnt,
+    read-measured.Asked,
+    read-measured.Learnt,
+    word-of.Asked,
+    word-of.Learnt,
+    put-leaf.Asked,
+    put-leaf.Learnt,
+    brackets-below,
+    read-brackets.Post,
+    put.Asked,
+    put.Learnt,
+    place.Asked,
+    place.Learnt,
+  )
 
   arguments-read-node-requires : arguments.Need-read-node-requires arguments-claims arguments-at read-arguments.Post
   arguments-read-node-requires c κs =
@@ -195,97 +214,136 @@ module _ (t : ℕ) where
       steps.too-deep _ _ _ _ _ _ _ _ _ _
       (sym (c .before .before .before .start .given .1) ∙ c .before .before .before .before .before .next-token .ensures) (c .if2 .taken)
 
+  node-sub-is-measured : node.Need-sub-is-measured node-claims node-at read-node.Post
+  node-sub-is-measured c =
+      let run = c .before .before .before in
+      let q = placed _ _ (sym (run .start .given .1) ∙ run .before .before .next-token .ensures) in
+      omega arith
+
+  node-part-is-measured-start : node.Need-part-is-measured-start node-claims node-at read-node.Post
+  node-part-is-measured-start c =
+      let run = c .before .before .before in
+      let q = placed _ _ (sym (run .start .given .1) ∙ run .before .before .next-token .ensures) in
+      omega arith
+
+  node-part-is-measured-end : node.Need-part-is-measured-end node-claims node-at read-node.Post
+  node-part-is-measured-end c =
+      let run = c .before .before .before in
+      let q = placed _ _ (sym (run .start .given .1) ∙ run .before .before .next-token .ensures) in
+      omega arith
+
+  node-read-measured-requires : node.Need-read-measured-requires node-claims node-at read-node.Post
+  node-read-measured-requires c κs =
+      let few = c .before .before .before .before .before in
+      let start = few .before .before .before .before .before .before .before .before .before in
+      (few .if1 .left, start .pre .1 .1)
+
+  node-returns-3 : node.Need-returns-3 node-claims node-at read-node.Post
+  node-returns-3 c =
+      let test = c .before .before .before .before .before in
+      let run = test .before .before .before .before .before in
+      steps.measured-node _ _ _ _ _ _ _ _ _ _ (sym (run .start .given .1) ∙ run .before .before .next-token .ensures)
+      (test .before .before .before .if1 .left) (test .before .before .if2 .left) (test .is-measured .ensures) (c .before .before .before .before .if3 .taken) _
+      (c .before .before .read-measured .ensures)
+
   node-sub-word-of : node.Need-sub-word-of node-claims node-at read-node.Post
   node-sub-word-of c =
-      let q = placed _ _ (sym (c .before .before .before .start .given .1) ∙ c .before .before .before .before .before .next-token .ensures)
-      in
+      let run = c .before .before .before .before .before .before in
+      let q = placed _ _ (sym (run .start .given .1) ∙ run .before .before .next-token .ensures) in
       omega arith
 
   node-part-word-of-start : node.Need-part-word-of-start node-claims node-at read-node.Post
   node-part-word-of-start c =
-      let q = placed _ _ (sym (c .before .before .before .start .given .1) ∙ c .before .before .before .before .before .next-token .ensures)
-      in
+      let run = c .before .before .before .before .before .before in
+      let q = placed _ _ (sym (run .start .given .1) ∙ run .before .before .next-token .ensures) in
       omega arith
 
   node-part-word-of-end : node.Need-part-word-of-end node-claims node-at read-node.Post
   node-part-word-of-end c =
-      let q = placed _ _ (sym (c .before .before .before .start .given .1) ∙ c .before .before .before .before .before .next-token .ensures)
-      in
+      let run = c .before .before .before .before .before .before in
+      let q = placed _ _ (sym (run .start .given .1) ∙ run .before .before .next-token .ensures) in
       omega arith
+
+  node-put-leaf-requires : node.Need-put-leaf-requires node-claims node-at read-node.Post
+  node-put-leaf-requires c κs =
+      let few = c .before .before .before .before .before .before .before .before .before .before in
+      let start = few .before .before .before .before .before .before .before .before .before in
+      (few .if1 .left, start .pre .1 .1)
 
   node-read-brackets-requires : node.Need-read-brackets-requires node-claims node-at read-node.Post
   node-read-brackets-requires c κs =
-      let token = c .before .before .before .before .before .before .before .before .before .before .before in
-      let start = token .before .before .before .before .before in
-      let q = placed _ _
-      (sym (c .before .before .before .before .before .before .before .before .before .start .given .1) ∙ token .next-token .ensures) in
-      (omega (arith, start .pre .0), (omega arith, omega (arith, start .pre .1 .1)))
+      let few = c .before .before .before .before .before .before .before .before .before .before in
+      let run = few .before .before in
+      let start = few .before .before .before .before .before .before .before .before .before in
+      let q = placed _ _ (sym (run .start .given .1) ∙ run .before .before .next-token .ensures) in
+      (omega (arith, start .pre .0), (omega (arith, few .if1 .left), omega (arith, start .pre .1 .1)))
+
+  node-add-put : node.Need-add-put node-claims node-at read-node.Post
+  node-add-put c =
+      let inner = c .before .before .before .before .before .before .before .before .before .before in
+      let start = inner .before .before .before .before .before .before .before .before .before .before .before .before .before .before .before .before .before .before .before .before in
+      record { fits = omega (arith, start .pre .1 .0, start .pre .1 .1) }
 
   node-add-put-2 : node.Need-add-put-2 node-claims node-at read-node.Post
   node-add-put-2 c =
-      let start = c .before .before .before .before .before .before .before .before .before .before .before .before .before .before .before
-      .before .before .before .before .before .before .before .before .before .before .before .before in
-      record { fits = omega (arith, start .pre .1 .0, start .pre .1 .1) }
-
-  node-add-put-3 : node.Need-add-put-3 node-claims node-at read-node.Post
-  node-add-put-3 c =
-      let start = c .before .before .before .before .before .before .before .before .before .before .before .before .before .before .before
-      .before .before .before .before .before .before .before .before .before .before .before .before .before .before .before .before in
+      let inner = c .before .before .before .before .before .before .before .before .before .before .before .before .before .before in
+      let start = inner .before .before .before .before .before .before .before .before .before .before .before .before .before .before .before .before .before .before .before .before in
       record { fits = omega (arith, start .pre .1 .0, start .pre .1 .1) }
 
   node-cast-put : node.Need-cast-put node-claims node-at read-node.Post
   node-cast-put c =
-      let inner = c .before .before .before .before .before .before .before .before .before .before .before .before .before .before in
-      let x = steps.went-args _ _ _ _ _ _ _ _ (inner .read-brackets .ensures) _ _ _ _
-      (c .before .before .before .before .before .before .before .before .before .before .past .given .1) in
+      let past = c .before .before .before .before .before .before .before .before .before .before in
+      let inner = past .before .before .before .before in
+      let x = steps.went-args _ _ _ _ _ _ _ _ (inner .read-brackets .ensures) _ _ _ _ (past .past .given .1) in
       omega (arith, x .grows, x .few)
-
-  node-returns-3 : node.Need-returns-3 node-claims node-at read-node.Post
-  node-returns-3 c =
-      let word = c .before .before in
-      let token = word .before .before .before .before .before .before .before in
-      steps.unknown-node _ _ _ _ _ _ _ _ _ _
-      (sym (word .before .before .before .before .before .start .given .1) ∙ token .next-token .ensures)
-      (word .before .before .before .if1 .left) (word .before .before .if2 .left)
-      (unknown-is _ (sym (ap wordPaper (c .enum-told .given .1)) ∙ word .word-of .ensures))
 
   node-returns-4 : node.Need-returns-4 node-claims node-at read-node.Post
   node-returns-4 c =
-      let word = c .before .before .before .before .before .before .before .before .before .before .before in
-      let token = word .before .before .before .before .before .before .before in
-      let start = token .before .before .before .before .before in
-      steps.leaf-node _ _ _ _ _ _ _ _ _ _ (sym (word .before .before .before .before .before .start .given .1) ∙ token .next-token .ensures)
-      (word .before .before .before .if1 .left) (word .before .before .if2 .left) _
-      (type-is _ _ (sym (ap wordPaper (c .before .before .before .before .before .before .before .before .before .code .given .1)) ∙ word .word-of .ensures))
-      (start .pre .1 .1) _ (c .before .before .before .before .before .before .put .ensures) (c .before .before .put2 .ensures)
+      let word = c .before .before in
+      let test = word .before .before .before in
+      let run = test .before .before .before .before .before in
+      steps.unknown-node _ _ _ _ _ _ _ _ _ _ (sym (run .start .given .1) ∙ run .before .before .next-token .ensures)
+      (test .before .before .before .if1 .left) (test .before .before .if2 .left) (test .is-measured .ensures) (word .before .before .if3 .left)
+      (unknown-is _ (sym (ap wordPaper (c .enum-told .given .1)) ∙ word .word-of .ensures))
 
   node-returns-5 : node.Need-returns-5 node-claims node-at read-node.Post
   node-returns-5 c =
-      let inner = c .before .before .before .before .before in
-      let word = inner .before .before .before .before .before in
-      let token = word .before .before .before .before .before .before .before in
-      steps.call-fault _ _ _ _ _ _ _ _ _ _
-      (sym (word .before .before .before .before .before .start .given .1) ∙ token .next-token .ensures)
-      (word .before .before .before .if1 .left) (word .before .before .if2 .left) _
-      (function-is _ _ (sym (ap wordPaper (inner .before .before .before .function .given .1)) ∙ word .word-of .ensures)) _ _ _
-      (inner .read-brackets .ensures) (c .before .why .given .1)
+      let word = c .before .before .before .before .before .before .before in
+      let test = word .before .before .before in
+      let run = test .before .before .before .before .before in
+      let start = run .before .before .before .before .before .before .before in
+      let put = c .before .before .put-leaf .ensures in
+      steps.leaf-node _ _ _ _ _ _ _ _ _ _ (sym (run .start .given .1) ∙ run .before .before .next-token .ensures)
+      (test .before .before .before .if1 .left) (test .before .before .if2 .left) (test .is-measured .ensures) (word .before .before .if3 .left) _
+      (type-is _ _ (sym (ap wordPaper (c .before .before .before .before .before .code .given .1)) ∙ word .word-of .ensures)) (start .pre .1 .1) _
+      (put .0) (put .1)
 
   node-returns-6 : node.Need-returns-6 node-claims node-at read-node.Post
   node-returns-6 c =
-      let inner = c .before .before .before .before .before .before .before .before .before .before .before .before .before .before .before
-      .before .before in
+      let inner = c .before .before .before .before .before in
       let word = inner .before .before .before .before .before in
-      let token = word .before .before .before .before .before .before .before in
-      steps.call-node _ _ _ _ _ _ _ _ _ _ (sym (word .before .before .before .before .before .start .given .1) ∙ token .next-token .ensures)
-      (word .before .before .before .if1 .left) (word .before .before .if2 .left) _
-      (function-is _ _ (sym (ap wordPaper (inner .before .before .before .function .given .1)) ∙ word .word-of .ensures)) _ _ _ _ _ _
-      (inner .read-brackets .ensures)
-      (c .before .before .before .before .before .before .before .before .before .before .before .before .before .past .given .1) _ _
-      (c .before .before .before .before .before .before .before .before .before .before .put3 .ensures)
-      (c .before .before .before .before .before .before .put4 .ensures) (c .before .before .put5 .ensures)
+      let test = word .before .before .before in
+      let run = test .before .before .before .before .before in
+      steps.call-fault _ _ _ _ _ _ _ _ _ _ (sym (run .start .given .1) ∙ run .before .before .next-token .ensures)
+      (test .before .before .before .if1 .left) (test .before .before .if2 .left) (test .is-measured .ensures) (word .before .before .if3 .left) _
+      (function-is _ _ (sym (ap wordPaper (inner .before .before .before .function .given .1)) ∙ word .word-of .ensures)) _ _ _
+      (inner .read-brackets .ensures) (c .before .why .given .1)
 
   node-returns-7 : node.Need-returns-7 node-claims node-at read-node.Post
   node-returns-7 c =
+      let tag = c .before .before .before .before .before .before .before .before .before .before in
+      let past = tag .before .before .before in
+      let inner = past .before .before .before .before in
+      let word = inner .before .before .before .before .before in
+      let test = word .before .before .before in
+      let run = test .before .before .before .before .before in
+      steps.call-node _ _ _ _ _ _ _ _ _ _ (sym (run .start .given .1) ∙ run .before .before .next-token .ensures)
+      (test .before .before .before .if1 .left) (test .before .before .if2 .left) (test .is-measured .ensures) (word .before .before .if3 .left) _
+      (function-is _ _ (sym (ap wordPaper (inner .before .before .before .function .given .1)) ∙ word .word-of .ensures)) _ _ _ _ _ _
+      (inner .read-brackets .ensures) (past .past .given .1) _ _ (tag .put .ensures) (c .before .before .before .before .before .before .put2 .ensures) (c .before .before .put3 .ensures)
+
+  node-returns-8 : node.Need-returns-8 node-claims node-at read-node.Post
+  node-returns-8 c =
       steps.no-run _ _ _ _ _ _ _ _ _ _ (c .before .before .next-token .ensures) (c .before .match .keys2) (c .place .ensures)
 
 pub +read-arguments+read-brackets+read-node-spec : {M : Type 1} → statement M
@@ -346,17 +404,20 @@ pub +read-arguments+read-brackets+read-node-spec : {M : Type 1} → statement M
     (search needs)
     (node-returns t)
     (node-returns-2 t)
+    (node-sub-is-measured t)
+    (node-part-is-measured-start t)
+    (node-part-is-measured-end t)
+    (search needs)
+    (node-read-measured-requires t)
+    (search needs)
+    (node-returns-3 t)
     (node-sub-word-of t)
     (node-part-word-of-start t)
     (node-part-word-of-end t)
     (search needs)
     (search needs)
     (search needs)
-    (search needs)
-    (search needs)
-    (search needs)
-    (search needs)
-    (search needs)
+    (node-put-leaf-requires t)
     (search needs)
     (search needs)
     (search needs)
@@ -365,17 +426,17 @@ pub +read-arguments+read-brackets+read-node-spec : {M : Type 1} → statement M
     (search needs)
     (search needs)
     (search needs)
-    (node-add-put-2 t)
+    (node-add-put t)
     (search needs)
-    (node-add-put-3 t)
+    (node-add-put-2 t)
     (node-cast-put t)
     (search needs)
-    (search needs)
-    (node-returns-3 t)
     (search needs)
     (node-returns-4 t)
     (search needs)
     (node-returns-5 t)
     (search needs)
     (node-returns-6 t)
-    (node-returns-7 t))
+    (search needs)
+    (node-returns-7 t)
+    (node-returns-8 t))

@@ -14,6 +14,7 @@ use Rattle.text.specs.private.WriteStep.{textRoom}
 use Rattle.text.proofs.Turns
 use Rattle.names.proofs.spelling.Reads as spelling
 use Rattle.text.proofs.writer.put_all.Reads as put-all
+use Rattle.text.proofs.writer.write_leaf.Reads as write-leaf
 use Rattle.text.proofs.writer.write_node.Reads as write-node
 use Rattle.text.proofs.writer.write_node.Kinds as write-node-kinds
 use Rattle.text.proofs.writer.+write_node+write_rest.Lts-write_node as node
@@ -48,6 +49,8 @@ module _ (t : ℕ) where
   node-claims = (
     spelling.Asked,
     spelling.Learnt,
+    write-leaf.Asked,
+    write-leaf.Learnt,
     put-all.Asked,
     put-all.Learnt,
     node-below,
@@ -60,46 +63,45 @@ module _ (t : ℕ) where
   rest-claims = (node-below, write-node.Post, rest-below, write-rest.Post)
 
   -- what has room, and what is there, where a call's name has been written
-  named-room : (p : node.After-put-all2 node-claims node-at write-node.Post) → p .put-all2 .result + 2 ≤ textRoom
+  named-room : (p : node.After-put-all node-claims node-at write-node.Post) → p .put-all .result + 2 ≤ textRoom
   named-room p =
       let call = p .before .before .before .before in
       let start = call .before .before .before .before .before .before in
       let room = Turns.name-room _ _ _ _ _ (call .if1 .left) _ (p .before .spelling2 .ensures) (start .pre .1) in
-      omega (arith, p .put-all2 .ensures .0)
+      omega (arith, p .put-all .ensures .0)
 
   three-bytes : (p : node.Else1 node-claims node-at write-node.Post)
       → p .before .before .before .before .before .before .args .at + 2 < length (p .before .before .before .before .before .before .args .bytes .now)
   three-bytes p = Turns.three-bytes _ _ _ _ _ (p .if1 .left) (p .before .before .before .before .before .before .pre .1)
 
+  node-shared-slice-read-tag : node.Need-shared-slice-read-tag node-claims node-at write-node.Post
+  node-shared-slice-read-tag c =
+      let two = Turns.two-bytes _ _ _ _ _ (c .before .before .before .before .pre .1) in omega arith
+
   node-add-code : node.Need-add-code node-claims node-at write-node.Post
   node-add-code c =
-      let two = Turns.two-bytes _ _ _ _ _ (c .before .before .before .pre .1) in omega arith
+      let two = Turns.two-bytes _ _ _ _ _ (c .before .before .before .before .pre .1) in omega arith
 
   node-shared-slice-read-code : node.Need-shared-slice-read-code node-claims node-at write-node.Post
   node-shared-slice-read-code c =
-      Turns.two-bytes _ _ _ _ _ (c .before .before .before .before .pre .1)
+      Turns.two-bytes _ _ _ _ _ (c .before .before .before .before .before .pre .1)
 
   node-cast-code : node.Need-cast-code node-claims node-at write-node.Post
   node-cast-code c =
-      omega (arith, c .shared-slice-known4 .given (c .before .before .before .before .args .at + 1))
+      omega (arith, c .shared-slice-known5 .given (c .before .before .before .before .before .args .at + 1))
 
-  node-shared-slice-read-if1 : node.Need-shared-slice-read-if1 node-claims node-at write-node.Post
-  node-shared-slice-read-if1 c =
-      let two = Turns.two-bytes _ _ _ _ _ (c .before .before .before .before .before .pre .1) in omega arith
+  node-write-leaf-requires : node.Need-write-leaf-requires node-claims node-at write-node.Post
+  node-write-leaf-requires c κs =
+      Turns.leaf-room _ _ _ _ _ (c .before .before .if1 .taken) _ (c .spelling .ensures) (c .before .before .before .before .before .before .before .before .pre .1)
 
-  node-put-all-requires : node.Need-put-all-requires node-claims node-at write-node.Post
-  node-put-all-requires c κs =
-      let start = c .before .before .before .before .before .before .before .before in
-      Turns.leaf-room _ _ _ _ _ (c .before .before .if1 .taken) _ (c .spelling .ensures) (start .pre .1)
-
-  node-add-t19 : node.Need-add-t19 node-claims node-at write-node.Post
-  node-add-t19 c =
+  node-add-t21 : node.Need-add-t21 node-claims node-at write-node.Post
+  node-add-t21 c =
       let two = Turns.two-bytes _ _ _ _ _ (c .before .before .before .before .before .before .before .before .before .pre .1) in omega arith
 
   node-returns : node.Need-returns node-claims node-at write-node.Post
   node-returns c =
-      let named = c .put-all .ensures in
-      Turns.leaf-written _ _ _ _ _ (c .before .before .before .if1 .taken) _ _ _ _ (c .before .spelling .ensures) (named .0) (named .1)
+      let leaf = c .write-leaf .ensures in
+      Turns.leaf-written _ _ _ _ _ (c .before .before .before .if1 .taken) _ (c .before .spelling .ensures) _ _ _ (leaf .0) (leaf .1)
 
   node-add-count : node.Need-add-count node-claims node-at write-node.Post
   node-add-count c =
@@ -115,11 +117,11 @@ module _ (t : ℕ) where
 
   node-add-spelling : node.Need-add-spelling node-claims node-at write-node.Post
   node-add-spelling c =
-      let code = c .before .before .before .before in
-      omega (arith, code .shared-slice-known4 .given (code .before .before .before .before .args .at + 1))
+      let code = c .before .before .before in
+      omega (arith, code .shared-slice-known5 .given (code .before .before .before .before .before .args .at + 1))
 
-  node-put-all-requires-2 : node.Need-put-all-requires-2 node-claims node-at write-node.Post
-  node-put-all-requires-2 c κs =
+  node-put-all-requires : node.Need-put-all-requires node-claims node-at write-node.Post
+  node-put-all-requires c κs =
       let call = c .before .before .before in
       let start = call .before .before .before .before .before .before in
       let room = Turns.name-room _ _ _ _ _ (call .if1 .left) _ (c .spelling2 .ensures) (start .pre .1) in
@@ -137,20 +139,20 @@ module _ (t : ℕ) where
   node-element-write-strip-2 c =
       let room = named-room (c .before) in omega arith
 
-  node-add-t25 : node.Need-add-t25 node-claims node-at write-node.Post
-  node-add-t25 c =
+  node-add-t27 : node.Need-add-t27 node-claims node-at write-node.Post
+  node-add-t27 c =
       let three = three-bytes (c .before .before .before .before .before) in omega arith
 
-  node-add-t28 : node.Need-add-t28 node-claims node-at write-node.Post
-  node-add-t28 c =
+  node-add-t30 : node.Need-add-t30 node-claims node-at write-node.Post
+  node-add-t30 c =
       let room = named-room (c .before) in omega arith
 
   node-returns-2 : node.Need-returns-2 node-claims node-at write-node.Post
   node-returns-2 c =
       let named = c .before in
       let call = named .before .before .before .before in
-      Turns.call-written _ _ _ _ _ (call .if1 .left) _ (named .before .spelling2 .ensures) _ (named .put-all2 .ensures .0) _ _ _ _
-      (ap (λ l. set l (named .put-all2 .result) openByte) (named .put-all2 .ensures .1))
+      Turns.call-written _ _ _ _ _ (call .if1 .left) _ (named .before .spelling2 .ensures) _ (named .put-all .ensures .0) _ _ _ _
+      (ap (λ l. set l (named .put-all .result) openByte) (named .put-all .ensures .1))
       (Turns.args-none _ _ _ _ _ _ _ _ _ (c .if2 .taken) refl refl (omega arith))
 
   node-add-write-node : node.Need-add-write-node node-claims node-at write-node.Post
@@ -168,7 +170,7 @@ module _ (t : ℕ) where
       let start = call .before .before .before .before .before .before in
       let three = three-bytes call in
       let spelt = named .before .spelling2 .ensures in
-      let there = Turns.args-there _ _ _ _ _ (call .if1 .left) _ spelt _ (named .put-all2 .ensures .0) (start .pre .1) in
+      let there = Turns.args-there _ _ _ _ _ (call .if1 .left) _ spelt _ (named .put-all .ensures .0) (start .pre .1) in
       (omega (arith, start .pre .0), Turns.first-there _ _ _ _ _ _ (c .before .if2 .left) there)
 
   node-write-rest-requires : node.Need-write-rest-requires node-claims node-at write-node.Post
@@ -178,7 +180,7 @@ module _ (t : ℕ) where
       let start = call .before .before .before .before .before .before in
       let three = three-bytes call in
       let spelt = named .before .spelling2 .ensures in
-      let there = Turns.args-there _ _ _ _ _ (call .if1 .left) _ spelt _ (named .put-all2 .ensures .0) (start .pre .1) in
+      let there = Turns.args-there _ _ _ _ _ (call .if1 .left) _ spelt _ (named .put-all .ensures .0) (start .pre .1) in
       let next = Turns.others-there _ _ _ _ _ _ (c .before .before .before .if2 .left) _ _ _ (c .before .write-node .ensures) there in
       (omega (arith, start .pre .0, next .1), next .0)
 
@@ -186,8 +188,8 @@ module _ (t : ℕ) where
   node-returns-3 c =
       let named = c .before .before .before .before .before in
       let call = named .before .before .before .before in
-      Turns.call-written _ _ _ _ _ (call .if1 .left) _ (named .before .spelling2 .ensures) _ (named .put-all2 .ensures .0) _ _ _ _
-      (ap (λ l. set l (named .put-all2 .result) openByte) (named .put-all2 .ensures .1))
+      Turns.call-written _ _ _ _ _ (call .if1 .left) _ (named .before .spelling2 .ensures) _ (named .put-all .ensures .0) _ _ _ _
+      (ap (λ l. set l (named .put-all .result) openByte) (named .put-all .ensures .1))
       (Turns.args-written _ _ _ _ _ _ (c .before .before .before .before .if2 .left) _ _ _ (c .before .before .write-node .ensures) _ _
       (c .write-rest .ensures))
 
@@ -248,25 +250,25 @@ pub +write-node+write-rest-spec : {M : Type 1} → statement M
     (node-claims t)
     (node-at t)
     write-node.Post
+    (node-shared-slice-read-tag t)
     (node-add-code t)
     (node-shared-slice-read-code t)
     (node-cast-code t)
-    (node-shared-slice-read-if1 t)
     (search needs)
-    (node-put-all-requires t)
-    (node-add-t19 t)
+    (node-write-leaf-requires t)
+    (node-add-t21 t)
     (node-returns t)
     (node-add-count t)
     (node-shared-slice-read-count t)
     (node-cast-count t)
     (node-add-spelling t)
     (search needs)
-    (node-put-all-requires-2 t)
+    (node-put-all-requires t)
     (node-element-write-strip t)
     (node-add-strip t)
     (node-element-write-strip-2 t)
-    (node-add-t25 t)
-    (node-add-t28 t)
+    (node-add-t27 t)
+    (node-add-t30 t)
     (node-returns-2 t)
     (node-add-write-node t)
     (node-add-write-node-2 t)

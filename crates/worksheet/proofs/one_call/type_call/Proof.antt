@@ -14,38 +14,26 @@ use Rattle.worksheet.proofs.one_call.type_call.Statement.{statement}
 use Rattle.worksheet.proofs.one_call.type_call.Tie as tie
 
 -- the operand after which no rule is left is one of the call's
-here : (c : tie.After-known-told) → c .before .part .given .0 .1 .0 < c .before .before .before .before .before .before .before .before .args .count
+here : (c : tie.After-known-told) → c .before .part .given .0 .1 .0 < c .before .before .before .before .before .before .before .before .before .before .before .before .before .args .count
 here c =
-    let start = c .before .before .before .before .before .before .before .before in
+    let asked = c .before .before .before in
+    let start = asked .before .before .before .before .before .before .before .before .before .before in
     operand-here (start .args .function) (start .args .count) (start .args .at) (start .args .past) (start .args .switch) (start .args .stack)
-    (start .args .sheet) (start .pre .enough) (c .before .part .given .0 .0) (c .before .part .given .0 .1 .0)
-    (sym (ap outcomePaper (c .before .part .given .1)) ∙ c .before .before .before .outcome-of .ensures)
-
-sub-from : tie.Need-sub-from
-sub-from c = search needs
-
-sub-operands : tie.Need-sub-operands
-sub-operands c = search needs
-
-part-operands-start : tie.Need-part-operands-start
-part-operands-start c = search needs
+    (start .args .sheet) _ _ (asked .before .before .any-measured .ensures) (asked .before .concrete-only .ensures) (start .pre .enough)
+    (c .before .part .given .0 .0) (c .before .part .given .0 .1 .0)
+    (sym (ap outcomePaper (c .before .part .given .1)) ∙ asked .outcome-of .ensures)
 
 part-operands-end : tie.Need-part-operands-end
-part-operands-end c = let start = c .before .before .before in
+part-operands-end c =
+    let start = c .before .before .before .before in
     let n : length (start .args .stack .types) ≡ mostOperands = search needs in
     omega (arith, start .pre .bounded)
 
-outcome-of-requires : tie.Need-outcome-of-requires
-outcome-of-requires c κs = search needs
-
-enum-told : tie.Need-enum-told
-enum-told c = search needs
-
-refused-requires : tie.Need-refused-requires
-refused-requires c κs = search needs
-
-enum-known-part : tie.Need-enum-known-part
-enum-known-part c = search needs
+part-any-measured-end : tie.Need-part-any-measured-end
+part-any-measured-end c =
+    let start = c .before .before .before .before .before .before in
+    let n : length (start .args .stack .marks) ≡ mostOperands = search needs in
+    omega (arith, start .pre .bounded)
 
 add-operand : tie.Need-add-operand
 add-operand c = omega (arith, here c)
@@ -56,82 +44,85 @@ mul-start c = omega (arith, here c)
 array-read-start : tie.Need-array-read-start
 array-read-start c = omega (arith, here c)
 
-none-left-requires : tie.Need-none-left-requires
-none-left-requires c κs = search needs
-
-refused-requires-2 : tie.Need-refused-requires-2
-refused-requires-2 c κs = search needs
-
-enum-told-2 : tie.Need-enum-told-2
-enum-told-2 c = search needs
-
-refused-requires-3 : tie.Need-refused-requires-3
-refused-requires-3 c κs = search needs
-
-enum-known-chosen : tie.Need-enum-known-chosen
-enum-known-chosen c = search needs
-
 convert-requires : tie.Need-convert-requires
-convert-requires c κs = let start = c .before .before .before .before .before .before .before .before .before in
+convert-requires c κs =
+    let asked = c .before .before .before .before in
+    let start = asked .before .before .before .before .before .before .before .before .before .before in
     conversion-room (start .args .count) _ (start .pre)
     (rule-takes _ _ _ (c .before .before .chosen .given .0 .0)
-    (sym (ap outcomePaper (c .before .before .chosen .given .1)) ∙ c .before .before .before .before .outcome-of .ensures))
+    (sym (ap outcomePaper (c .before .before .chosen .given .1)) ∙ asked .outcome-of .ensures))
 
 line-requires : tie.Need-line-requires
-line-requires c κs = let start = c .before .before .before .before .before .before .before .before .before .before in
+line-requires c κs =
+    let start = c .before .before .before .before .before .before .before .before .before .before .before .before .before .before .before in
     line-room (start .args .count) (start .args .stack) _ _ _ (start .pre) (c .convert .ensures)
 
-cut-requires : tie.Need-cut-requires
-cut-requires c κs = search needs
-
 push-requires : tie.Need-push-requires
-push-requires c κs = search needs
+push-requires c κs =
+    let start = c .before .before .before .before .before .before .before .before .before .before .before .before .before .before .before .before .before in
+    omega (arith, c .cut .ensures .top-is, start .pre .bounded)
 
 returns : tie.Need-returns
-returns c = rw (c .refused .ensures)
-    (call-miscounted _ _ _ _ _ _ _ (sym (ap outcomePaper (c .before .enum-told .given .1)) ∙ c .before .before .before .outcome-of .ensures))
+returns c =
+    let asked = c .before .before .before in
+    rw (c .refused .ensures)
+    (call-miscounted _ _ _ _ _ _ _ _ _ (asked .before .before .any-measured .ensures) (asked .before .concrete-only .ensures)
+    (sym (ap outcomePaper (c .before .enum-told .given .1)) ∙ asked .outcome-of .ensures))
 
 returns-2 : tie.Need-returns-2
 returns-2 c =
     let told = c .before .before .before in
-    let start = told .before .before .before .before .before .before .before in
+    let asked = told .before .before in
+    let start = asked .before .before .before .before .before .before .before .before .before .before in
     rw (c .refused2 .ensures)
-    (call-none-after _ _ _ _ _ _ _ (start .pre .enough) (told .part .given .0 .0) (told .part .given .0 .1 .0) _ (c .before .none-left .ensures)
-    (sym (ap outcomePaper (told .part .given .1)) ∙ told .before .before .outcome-of .ensures))
+    (call-none-after _ _ _ _ _ _ _ _ _ (asked .before .before .any-measured .ensures) (asked .before .concrete-only .ensures) (start .pre .enough)
+    (told .part .given .0 .0) (told .part .given .0 .1 .0) _ (c .before .none-left .ensures)
+    (sym (ap outcomePaper (told .part .given .1)) ∙ asked .outcome-of .ensures))
 
 returns-3 : tie.Need-returns-3
-returns-3 c = rw (c .refused3 .ensures)
-    (call-none-concrete _ _ _ _ _ _ _ (sym (ap outcomePaper (c .before .enum-told2 .given .1)) ∙ c .before .before .before .outcome-of .ensures))
+returns-3 c =
+    let asked = c .before .before .before in
+    rw (c .refused3 .ensures)
+    (call-none-concrete _ _ _ _ _ _ _ _ _ (asked .before .before .any-measured .ensures) (asked .before .concrete-only .ensures)
+    (sym (ap outcomePaper (c .before .enum-told2 .given .1)) ∙ asked .outcome-of .ensures))
 
 returns-4 : tie.Need-returns-4
-returns-4 c = let told = c .before .before .before .before .before .before in
-    call-ruled _ _ _ _ _ _ _ (told .chosen .given .0 .0) _ _ _ _
+returns-4 c =
+    let told = c .before .before .before .before .before .before in
+    let asked = told .before .before in
+    call-ruled _ _ _ _ _ _ _ _ _ (asked .before .before .any-measured .ensures) (asked .before .concrete-only .ensures)
+    (told .chosen .given .0 .0) _ _ _ _
     (c .before .before .before .convert .ensures) (c .before .before .line .ensures) (c .before .cut .ensures) (c .push .ensures)
-    (sym (ap outcomePaper (told .chosen .given .1)) ∙ told .before .before .outcome-of .ensures)
+    (sym (ap outcomePaper (told .chosen .given .1)) ∙ asked .outcome-of .ensures)
 
 pub type-call-spec : {M : Type 1} → statement M
 type-call-spec =
     tie.close
     (tie.spec
-    sub-from
-    sub-operands
-    part-operands-start
+    (search needs)
+    (search needs)
+    (search needs)
     part-operands-end
-    outcome-of-requires
-    enum-told
-    refused-requires
-    enum-known-part
+    (search needs)
+    (search needs)
+    part-any-measured-end
+    (λ c κs. search needs)
+    (λ c κs. search needs)
+    (λ c κs. search needs)
+    (search needs)
+    (λ c κs. search needs)
+    (search needs)
     add-operand
     mul-start
     array-read-start
-    none-left-requires
-    refused-requires-2
-    enum-told-2
-    refused-requires-3
-    enum-known-chosen
+    (λ c κs. search needs)
+    (λ c κs. search needs)
+    (search needs)
+    (λ c κs. search needs)
+    (search needs)
     convert-requires
     line-requires
-    cut-requires
+    (λ c κs. search needs)
     push-requires
     returns
     returns-2

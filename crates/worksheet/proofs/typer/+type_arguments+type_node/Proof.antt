@@ -17,6 +17,7 @@ use Rattle.worksheet.proofs.typer.type_node.Kinds as type-node-kinds
 use Rattle.worksheet.proofs.typer.+type_arguments+type_node.Lts-type_node as node
 use Rattle.worksheet.proofs.sheet.Sheet.line.Reads as sheet-line
 use Rattle.worksheet.proofs.stack.Stack.push.Reads as stack-push
+use Rattle.types.proofs.operand.Operand.mark.Reads as operand-mark
 use Rattle.worksheet.proofs.one_call.type_call.Reads as type-call
 use Rattle.worksheet.proofs.typer.+type_arguments+type_node.{statement}
 use Rattle.worksheet.proofs.typer.+type_arguments+type_node.Tie.{close}
@@ -52,6 +53,8 @@ module _ (t : ℕ) where
   node-claims = (
     stack-push.Asked,
     stack-push.Learnt,
+    operand-mark.Asked,
+    operand-mark.Learnt,
     sheet-line.Asked,
     sheet-line.Learnt,
     arguments-below,
@@ -110,13 +113,15 @@ module _ (t : ℕ) where
   node-push-requires c κs = Passes.room _ _ _ _ (c .before .before .before .before .pre .1) .0
 
   node-line-requires : node.Need-line-requires node-claims node-at type-node.Post
-  node-line-requires c κs = Passes.room _ _ _ _ (c .before .before .before .before .before .pre .1) .1
+  node-line-requires c κs = Passes.room _ _ _ _ (c .before .before .before .before .before .before .pre .1) .1
 
-  node-add-t22 : node.Need-add-t22 node-claims node-at type-node.Post
-  node-add-t22 c = let two = Passes.two-bytes _ _ _ _ (c .before .before .before .before .before .before .pre .1) in omega arith
+  node-add-t25 : node.Need-add-t25 node-claims node-at type-node.Post
+  node-add-t25 c = let two = Passes.two-bytes _ _ _ _ (c .before .before .before .before .before .before .before .pre .1) in omega arith
 
   node-returns : node.Need-returns node-claims node-at type-node.Post
-  node-returns c = Passes.leaf-typed _ _ _ _ _ _ _ (c .before .before .if1 .taken) (c .before .push .ensures) (c .line .ensures)
+  node-returns c =
+      Passes.leaf-typed _ _ _ _ _ _ _ (c .before .before .before .if1 .taken) (c .before .before .push .ensures)
+      (rw (c .before .mark .ensures) at (c .line .ensures))
 
   node-add-count : node.Need-add-count node-claims node-at type-node.Post
   node-add-count c = let two = Passes.two-bytes _ _ _ _ (c .before .before .before .before .pre .1) in omega arith
@@ -186,8 +191,9 @@ pub +type-arguments+type-node-spec : {M : Type 1} → statement M
     (node-add-code t)
     (node-shared-slice-read-code t)
     (node-push-requires t)
+    (λ c κs. search needs)
     (node-line-requires t)
-    (node-add-t22 t)
+    (node-add-t25 t)
     (node-returns t)
     (node-add-count t)
     (node-shared-slice-read-count t)

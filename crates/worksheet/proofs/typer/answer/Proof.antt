@@ -37,8 +37,10 @@ returns-3 c =
     let there = c .before .before .before .before in
     let told = there .before .before .before .before .before .before .before in
     let start = told .before .before .before in
-    root-typed (start .args .root) (start .args .out .now) (told .enum-told .given .1) _ _ (there .lend-bytes .ensures .0)
-    (start .pre (told .enum-told .given .1)) (there .lend-bytes .ensures .1) (c .enum-told2 .given .1)
+    let made = there .before .before .before .before .before in
+    rw (made .operand .ensures)
+    (root-typed (start .args .root) (start .args .out .now) (told .enum-told .given .1) _ _ (there .lend-bytes .ensures .0)
+    (start .pre (told .enum-told .given .1)) (there .lend-bytes .ensures .1) (c .enum-told2 .given .1))
 
 pub answer-spec : {M : Type 1} → statement M
 answer-spec =
@@ -46,7 +48,7 @@ answer-spec =
     (tie.spec
     (search needs)
     (search needs)
-    (search needs)
+    (λ c κs. search needs)
     array-share-prefix-written
     slice-aggregate-lend-bytes
     (λ c κs. search needs)
