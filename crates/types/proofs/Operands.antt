@@ -6,39 +6,27 @@ use mathlib.Core.List.{List, [], _∷_, _++_}
 use Prim.Native.Nat.{ℕ, suc, _+_, _≤_, _<_}
 use native.Mathlib.Numerals.{add-one}
 use native.Mathlib.Omega.{arith}
-use lib.Dec.{eqb, ltb}
+use lib.Dec.{eqb}
 use lib.ListN.{length, getD, drop, drop-of-length-le}
 use lib.Seq.{drop-cons}
-use borrow.Author.Tests.{eq-eqb, ne-eqb, lt-ltb}
+use borrow.Author.Tests.{eq-eqb, ne-eqb}
 use Rattle.scalars.specs.Mask.{either}
 use Rattle.types.specs.declared.operand.Operand.{Operand}
 use Rattle.types.specs.Operand.{measuredMark, markOf, operandOf, operandsOf, codes, marks, anyMeasured, anyMark}
-
-either-way : (b : Bool) → either b true ≡ true
-either-way true = refl
-either-way false = refl
-
-either-none : (b : Bool) → either b false ≡ b
-either-none true = refl
-either-none false = refl
 
 module _ (ms : List ℕ) (i : ℕ) where
   split : i < length ms → anyMark (drop i ms) ≡ either (eqb (getD ms i 0) measuredMark) (anyMark (drop (i + 1) ms))
   split h = rw (add-one i) (ap anyMark (drop-cons ms i 0 h))
 
-  -- n operands before this one are measured
-  module _ (n : ℕ) (inv : either (ltb 0 n) (anyMark (drop i ms)) ≡ anyMark ms) where
-    pub mark-here : i < length ms → getD ms i 0 ≡ measuredMark → either (ltb 0 (n + 1)) (anyMark (drop (i + 1) ms)) ≡ anyMark ms
-    mark-here h e =
-        let here : anyMark (drop i ms) ≡ true = split h ∙ rw (eq-eqb (getD ms i 0) measuredMark e) in
-        let any : either (ltb 0 n) (anyMark (drop i ms)) ≡ true = ap (either (ltb 0 n)) here ∙ either-way (ltb 0 n) in
-        ap (λ b. either b (anyMark (drop (i + 1) ms))) (lt-ltb 0 (n + 1) (omega arith)) ∙ sym any ∙ inv
+  module _ (inv : anyMark (drop i ms) ≡ anyMark ms) where
+    pub mark-here : i < length ms → getD ms i 0 ≡ measuredMark → true ≡ anyMark ms
+    mark-here h e = sym (sym inv ∙ split h ∙ rw (eq-eqb (getD ms i 0) measuredMark e))
 
-    pub mark-later : i < length ms → (getD ms i 0 ≡ measuredMark → ⊥) → either (ltb 0 n) (anyMark (drop (i + 1) ms)) ≡ anyMark ms
-    mark-later h e = ap (either (ltb 0 n)) (sym (split h ∙ rw (ne-eqb (getD ms i 0) measuredMark e))) ∙ inv
+    pub mark-later : i < length ms → (getD ms i 0 ≡ measuredMark → ⊥) → anyMark (drop (i + 1) ms) ≡ anyMark ms
+    mark-later h e = sym (split h ∙ rw (ne-eqb (getD ms i 0) measuredMark e)) ∙ inv
 
-    pub mark-end : length ms ≤ i → ltb 0 n ≡ anyMark ms
-    mark-end h = sym (either-none (ltb 0 n)) ∙ ap (either (ltb 0 n)) (sym (ap anyMark (drop-of-length-le ms h))) ∙ inv
+    pub mark-none : length ms ≤ i → false ≡ anyMark ms
+    mark-none h = sym (ap anyMark (drop-of-length-le ms h)) ∙ inv
 
 -- as many types as marks are the types and marks of operands
 pub codes-beside : (ts ms : List ℕ) → length ts ≡ length ms → codes (operandsOf ts ms) ≡ ts

@@ -5,7 +5,7 @@
 // byte each, in another.
 
 ghost use mathlib.Core.Path.{_≡_};
-ghost use Rattle.types.specs.Operand.{markOf, operandOf, anyMark, measuredAbstract, concreteOnly};
+ghost use Rattle.types.specs.Operand.{markOf, operandOf, measuredAbstract, concreteOnly};
 use crate::type_code::is_abstract;
 
 // The mark of a constant operand.
@@ -48,21 +48,6 @@ impl Operand {
         }
         is_abstract(self.code)
     }
-}
-
-// Whether some operand is measured, by their marks.
-pub fn any_measured(marks: &[u8]) -> bool
-    ensures { λ r. ⌜ r ≡ anyMark (now (marks .entry)) ⌝ }
-{
-    let mut measured: usize = 0;
-    let mut i: usize = 0;
-    while i < marks.len() {
-        if marks[i] == MEASURED {
-            measured += 1;
-        }
-        i += 1;
-    }
-    0 < measured
 }
 
 // Whether a call drops rules with an abstract argument: the switch asks for it, or a measured operand does.
