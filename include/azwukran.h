@@ -218,7 +218,7 @@ azwukran_type_answer azwukran_type(const uint8_t *bytes, size_t n, uint8_t concr
  * take their arguments, and whether a measured leaf is abstract, is for azwukran_type to say. */
 azwukran_text_answer azwukran_read_text(const uint8_t *text, size_t n, uint8_t *out, size_t room);
 
-/* Writes the text of an expression of n bytes to the front of `out`, which has `room` bytes; 1,536 always suffice. A space
+/* Writes the text of an expression of n bytes to the front of `out`, which has `room` bytes; 2,112 always suffice. A space
  * stands behind each comma and each `measured` and nowhere else, and no zero byte is added. Reading the text gives back the
  * bytes. Refusals: 8, 9, 7, 17 in the order of the bytes, as for azwukran_type, then 10. */
 azwukran_text_answer azwukran_write_text(const uint8_t *bytes, size_t n, uint8_t *out, size_t room);

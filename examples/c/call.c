@@ -13,7 +13,7 @@ enum { ABSTRACT_INT = 0, ABSTRACT_FLOAT = 1, U32 = 5, F32 = 8, F16 = 9, VEC2_F32
 /* Bytes of every worksheet, of every expression that is read, of every text that is written, of every mask, of a worksheet's
  * line and of a List's rule; the most rules of a List; the depth that a node may have; and what stands in lent bytes before
  * they are written. */
-enum { ENOUGH_ROOM = 508, ENOUGH_BYTES = 192, ENOUGH_TEXT = 1536, ENOUGH_MASK = 8 };
+enum { ENOUGH_ROOM = 508, ENOUGH_BYTES = 192, ENOUGH_TEXT = 2112, ENOUGH_MASK = 8 };
 enum { LINE = 4, RULE = 6, MOST_RULES = 63, DEEPEST = 16, FILL = 165 };
 
 /* Prints the refusal, if there is one. */

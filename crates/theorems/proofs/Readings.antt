@@ -1,4 +1,5 @@
--- The readings of specs/Readings.antt hold, each table by one statement: document 01's at the bench, and the Rust's tests of a walk over set bits.
+-- The readings of specs/Readings.antt hold, each table by one statement: document 01's at the bench, document 02's of measured operands, and the Rust's
+-- tests of a walk over set bits.
 -- Assumes nothing.
 use mathlib.Core.Path.{_≡_, refl}
 use Rattle.scalars.specs.Mask.{bits}
@@ -20,11 +21,15 @@ use Rattle.machine.specs.Line.{encode}
 use Rattle.worksheet.specs.Places.{starts}
 use Rattle.worksheet.specs.Typer.{typeOf, typeAll}
 use Rattle.worksheet.specs.Typing.{typingOf}
-use Rattle.theorems.specs.Readings.{asked, paper, walked, tested}
+use Rattle.theorems.specs.Readings.{asked, paper, measuredAsked, measuredPaper, walked, tested}
 
 pub readings : asked ≡ paper
 unfolding asked paper bits converts isAbstract firstUnknown combination agree agreed firstOf giverOf consensusOf predeclaredCode reaches narrow resolve ruleOf codesOf concludedOf regularRules floatScalars concreteFloatScalars concreteIntScalars vectorSizes vector matrix scalarOrVecn functionSets functionSetOf listedRules listingOf callOf survivorsOf survivorsOfCall argsAt leafAt callAt taggedAt nodeAt expressionOf count bytesOf bytesOfAll starts typeOf typeAll encode typingOf
 readings = refl
+
+pub measured-readings : measuredAsked ≡ measuredPaper
+unfolding measuredAsked measuredPaper bits converts isAbstract predeclaredCode reaches narrow resolve ruleOf codesOf concludedOf regularRules floatScalars concreteFloatScalars concreteIntScalars vectorSizes vector matrix scalarOrVecn functionSets functionSetOf listedRules listingOf callOf argsAt leafAt callAt taggedAt nodeAt expressionOf count bytesOf bytesOfAll starts typeOf typeAll encode typingOf
+measured-readings = refl
 
 pub walks : walked ≡ tested
 unfolding walked tested bits

@@ -1,8 +1,9 @@
--- Readings, of the very definitions that the public promises cite: two tables, each proved by one statement.
+-- Readings, of the very definitions that the public promises cite: three tables, each proved by one statement.
 --
 -- * 'Readings at the bench': the marked ones, and of 'Errors that look right' the call that document 02's (iv) speaks of. `asked` asks the
 --   definitions, and `paper` is what document 01 says; a row is the paper's number, its place, and the values that the reading names; of a
 --   consensus also who gave it, by document 02's request (ii). Where (iv) has it so, 16 stands for 6.
+-- * Document 02's (v), the refusals of a measured leaf and of a measured operand, and a measured call: `measuredAsked` and `measuredPaper`.
 -- * The tests of the Rust's `one_bits_iter.rs`: `walked` asks what `OneBitsIter::next` and `OneBit::number` promise, and `tested` is what
 --   the tests expect; a row for the masks that the walk yields, one after the other to its end, and a row for their numbers.
 use mathlib.Core.Bool.{false}
@@ -73,6 +74,37 @@ paper =
     ∷ (12 ∷ 2 ∷ 255 ∷ 255 ∷ 255 ∷ []) ∷ (0 ∷ 0 ∷ 8 ∷ 1 ∷ 1 ∷ []) ∷ (12 ∷ 0 ∷ 255 ∷ 255 ∷ 255 ∷ [])
     -- the empty expression: refusal 8 at 0. Leaf 156 alone: accepted, type 156
     ∷ (8 ∷ 0 ∷ 255 ∷ []) ∷ (0 ∷ 0 ∷ 156 ∷ [])
+    ∷ []
+
+-- ---- measured operands
+
+-- the type and the mark
+abbrev markedAs : List ℕ → List ℕ
+markedAs s = row (0 ∷ 1 ∷ []) (answerOf (typing false s (replicate enoughBytes 255)))
+
+-- of a call with these marks the rule's index, its result, and the result's mark
+abbrev calledWith : ℕ → List ℕ → List ℕ → List ℕ
+calledWith f ts ms = row (0 ∷ 6 ∷ 7 ∷ []) (callOf functionCount listingOf false f ts ms)
+
+-- Clamp 4, Sin 5, Pow 32
+unfoldable pub measuredAsked : List (List ℕ)
+measuredAsked =
+    markedAs (2 ∷ []) ∷ markedAs (2 ∷ 157 ∷ []) ∷ markedAs (2 ∷ 0 ∷ []) ∷ markedAs (2 ∷ 8 ∷ []) ∷ markedAs (0 ∷ 0 ∷ [])
+    ∷ markedAs (1 ∷ 32 ∷ 2 ∷ 2 ∷ 8 ∷ 0 ∷ 1 ∷ [])
+    ∷ calledWith 5 (1 ∷ []) (1 ∷ []) ∷ calledWith 5 (1 ∷ []) (0 ∷ []) ∷ calledWith 5 (8 ∷ []) (2 ∷ []) ∷ calledWith 5 (8 ∷ []) []
+    ∷ calledWith 4 (0 ∷ 8 ∷ 1 ∷ []) (0 ∷ 1 ∷ 0 ∷ [])
+    ∷ []
+
+unfoldable pub measuredPaper : List (List ℕ)
+measuredPaper =
+    -- a measured leaf: its type present (8), known (7), not abstract (17); a measured f32; a constant abstract integer
+    (8 ∷ 1 ∷ 255 ∷ 255 ∷ []) ∷ (7 ∷ 1 ∷ 255 ∷ 255 ∷ []) ∷ (17 ∷ 1 ∷ 255 ∷ 255 ∷ []) ∷ (0 ∷ 0 ∷ 8 ∷ 1 ∷ []) ∷ (0 ∷ 0 ∷ 0 ∷ 0 ∷ [])
+    -- Pow of a measured f32 and an abstract float is a measured f32
+    ∷ (0 ∷ 0 ∷ 8 ∷ 1 ∷ [])
+    -- Sin of a measured abstract float: 17 at 1 + index; of a constant one: an abstract float; an unknown mark; a mark that is missing
+    ∷ (17 ∷ 1 ∷ 255 ∷ 255 ∷ 255 ∷ []) ∷ (0 ∷ 0 ∷ 0 ∷ 1 ∷ 0 ∷ []) ∷ (7 ∷ 1 ∷ 255 ∷ 255 ∷ 255 ∷ []) ∷ (8 ∷ 0 ∷ 255 ∷ 255 ∷ 255 ∷ [])
+    -- Clamp of an abstract integer, a measured f32 and an abstract float: rule 8, a measured f32
+    ∷ (0 ∷ 0 ∷ 8 ∷ 8 ∷ 1 ∷ [])
     ∷ []
 
 -- ---- the walk over set bits

@@ -19,7 +19,7 @@ pub const ENOUGH_ROOM: usize = 508;
 pub const ENOUGH_BYTES: usize = 192;
 
 /// The bytes that suffice for the text of any expression.
-pub const ENOUGH_TEXT: usize = 1536;
+pub const ENOUGH_TEXT: usize = 2112;
 
 /// The bytes that suffice for the mask of any function's rules, or any List's.
 pub const ENOUGH_MASK: usize = 8;
