@@ -5,11 +5,12 @@
 ghost use mathlib.Core.Path.{_≡_};
 ghost use mathlib.Core.List.{[]};
 ghost use lib.ListN.{length};
-ghost use Rattle.scalars.specs.Paper.{accepted, verdictPaper};
+ghost use Rattle.scalars.specs.Mask.{either};
 ghost use Rattle.functions.specs.Functions.{functionCount, listingOf};
 ghost use Rattle.calls.specs.Choice.{resolve};
 ghost use Rattle.calls.specs.OutcomePaper.{outcomePaper};
 ghost use Rattle.calls.specs.CallPaper.{callPaper};
+ghost use Rattle.calls.specs.private.Found.{foundPaper, inOrder};
 ghost use Rattle.calls.specs.SurvivorsPaper.{survivorsPaper};
 ghost use Rattle.calls.specs.Call.{answered, ifOperands, ifCallKnown, callOf, survivorsOfCall};
 use crate::call::Survivors;
@@ -26,12 +27,17 @@ use functions::FUNCTION_COUNT;
 use functions::FunctionSet;
 use functions::function_set;
 use scalars::Refusal;
-use scalars::Verdict;
 use types::LAST_CODE;
 use types::MEASURED;
 use types::Operand;
-use types::any_measured;
 use types::concrete_only;
+
+// What the tests before a call find.
+pub(crate) enum Found {
+    // All is in order; whether an operand is measured.
+    InOrder(bool),
+    Refused(Refusal),
+}
 
 // The rule that a call of the function with these operands means, with its index in the function's full listing, and whether the result is
 // measured. Refused 7 at 0 for the function; 8 at the shorter length where there is not a mark for each type; at 1 + index 7 for a type or
@@ -40,10 +46,9 @@ use types::concrete_only;
 pub fn call_of(function: u8, types: &[u8], marks: &[u8], switch: bool) -> CallAnswer
     ensures { λ r. ⌜ callPaper r ≡ callOf functionCount listingOf switch function (now (types .entry)) (now (marks .entry)) ⌝ }
 {
-    match known(function, types, marks) {
-        Verdict::Refused(why) => CallAnswer::Refused(why),
-        Verdict::Accepted => {
-            let measured = any_measured(marks);
+    match tested(function, types, marks) {
+        Found::Refused(why) => CallAnswer::Refused(why),
+        Found::InOrder(measured) => {
             let outcome = outcome_of(function, types, concrete_only(switch, measured));
             single(outcome, measured)
         }
@@ -65,50 +70,64 @@ pub fn outcome_of(function: u8, operands: &[u8], concrete: bool) -> Outcome
 pub fn survivors_of(function: u8, types: &[u8], marks: &[u8], switch: bool) -> Survivors
     ensures { λ r. ⌜ survivorsPaper r ≡ survivorsOfCall functionCount listingOf switch function (now (types .entry)) (now (marks .entry)) ⌝ }
 {
-    match known(function, types, marks) {
-        Verdict::Refused(why) => Survivors::Refused(why),
-        Verdict::Accepted => {
-            let concrete = concrete_only(switch, any_measured(marks));
+    match tested(function, types, marks) {
+        Found::Refused(why) => Survivors::Refused(why),
+        Found::InOrder(measured) => {
+            let concrete = concrete_only(switch, measured);
             surviving(stepped(rules_of(function), types, concrete))
         }
     }
 }
 
 // Whether the function is known, there is a mark for each type, and each operand passes its test.
-fn known(function: u8, types: &[u8], marks: &[u8]) -> Verdict
-    ensures { λ r. ⌜ verdictPaper r ≡ ifCallKnown functionCount function (now (types .entry)) (now (marks .entry)) [] (accepted []) ⌝ }
+fn tested(function: u8, types: &[u8], marks: &[u8]) -> Found
+    ensures { λ r. ⌜ foundPaper r ≡ ifCallKnown functionCount function (now (types .entry)) (now (marks .entry)) [] (inOrder (now (marks .entry))) ⌝ }
 {
     if FUNCTION_COUNT <= function {
-        return Verdict::Refused(Refusal::Unknown(0));
+        return Found::Refused(Refusal::Unknown(0));
     }
     if types.len() < marks.len() {
-        return Verdict::Refused(Refusal::IllFormed(types.len()));
+        return Found::Refused(Refusal::IllFormed(types.len()));
     }
     if marks.len() < types.len() {
-        return Verdict::Refused(Refusal::IllFormed(marks.len()));
+        return Found::Refused(Refusal::IllFormed(marks.len()));
     }
-    operands_known(types, marks)
+    operands_tested(types, marks)
 }
 
-// Whether each operand's type and mark are known, and none is measured and abstract.
-fn operands_known(types: &[u8], marks: &[u8]) -> Verdict
+// Whether each operand's type and mark are known, and none is measured and abstract. One walk over the operands also finds whether one is
+// measured.
+fn operands_tested(types: &[u8], marks: &[u8]) -> Found
     requires { ⌜ length (now types) ≡ length (now marks) ⌝ }
-    ensures { λ r. ⌜ verdictPaper r ≡ ifOperands 0 (now (types .entry)) (now (marks .entry)) [] (accepted []) ⌝ }
+    ensures { λ r. ⌜ foundPaper r ≡ ifOperands 0 (now (types .entry)) (now (marks .entry)) [] (inOrder (now (marks .entry))) ⌝ }
 {
+    let mut measured = false;
     let mut i: usize = 0;
     while i < types.len() {
         let code = types[i];
         let mark = marks[i];
         if LAST_CODE < code {
-            return Verdict::Refused(Refusal::Unknown(1 + i));
+            return Found::Refused(Refusal::Unknown(1 + i));
         }
         if MEASURED < mark {
-            return Verdict::Refused(Refusal::Unknown(1 + i));
+            return Found::Refused(Refusal::Unknown(1 + i));
         }
-        if Operand::of(code, mark).is_measured_abstract() {
-            return Verdict::Refused(Refusal::MeasuredAbstract(1 + i));
+        let operand = Operand::of(code, mark);
+        if operand.is_measured_abstract() {
+            return Found::Refused(Refusal::MeasuredAbstract(1 + i));
         }
+        measured = either_measured(measured, operand);
         i += 1;
     }
-    Verdict::Accepted
+    Found::InOrder(measured)
+}
+
+// Whether an operand before is measured, or this one.
+fn either_measured(before: bool, operand: Operand) -> bool
+    ensures { λ r. ⌜ r ≡ either before (operand .measured) ⌝ }
+{
+    if before {
+        return true;
+    }
+    operand.measured
 }

@@ -3,7 +3,7 @@
 use mathlib.Core.Path.{sym, ap, _∙_, subst}
 use mathlib.Core.List as L
 use native.Mathlib.Omega.{arith}
-use Rattle.scalars.specs.Paper.{verdictPaper}
+use Rattle.calls.specs.private.Found.{foundPaper}
 use Rattle.rules.specs.Signature.{Signature}
 use Rattle.lists.specs.List.{signatures}
 use Rattle.calls.specs.Call.{survivorsOf}
@@ -14,24 +14,6 @@ use Rattle.calls.proofs.CallTests.{refused-survivors, passed-survivors}
 use borrow.Author.Needs.{needs}
 use Rattle.calls.proofs.function_call.survivors_of.Statement.{statement}
 use Rattle.calls.proofs.function_call.survivors_of.Tie as tie
-
-known-requires : tie.Need-known-requires
-known-requires c κs = search needs
-
-enum-known-why : tie.Need-enum-known-why
-enum-known-why c = search needs
-
-enum-told : tie.Need-enum-told
-enum-told c = search needs
-
-any-measured-requires : tie.Need-any-measured-requires
-any-measured-requires c κs = search needs
-
-concrete-only-requires : tie.Need-concrete-only-requires
-concrete-only-requires c κs = search needs
-
-rules-of-requires : tie.Need-rules-of-requires
-rules-of-requires c κs = search needs
 
 stepped-requires : tie.Need-stepped-requires
 stepped-requires c κs =
@@ -47,30 +29,30 @@ returns : tie.Need-returns
 returns c =
     let there = c .before .before .before in
     let start = there .before .before .before .args in
-    refused-survivors (start .switch) (start .function) _ _ (c .before .why .given .0 .0) (sym (there .known .ensures) ∙ ap verdictPaper (c .before .why .given .1))
+    refused-survivors (start .switch) (start .function) _ _ (c .before .why .given .0 .0) (sym (there .tested .ensures) ∙ ap foundPaper (c .before .why .given .1))
 
 returns-2 : tie.Need-returns-2
 returns-2 c =
     let steps = c .before in
-    let asked = steps .before .before .before in
-    let there = asked .before .before .before in
+    let asked = steps .before .before in
+    let told = asked .before .before in
+    let there = told .before .before in
     let start = there .before .before .before .args in
     let listing = ap signatures (steps .before .rules-of .ensures) ∙ listed-of (start .function) in
     c .surviving .ensures ∙ steps .stepped .ensures .survivors
-    ∙ ap (λ (rs : L.List Signature). survivorsOf (steps .before .before .concrete-only .result) rs (start .types .now)) listing
-    ∙ passed-survivors (start .switch) (start .function) _ _ (sym (there .known .ensures) ∙ ap verdictPaper (asked .before .enum-told .given .1))
-    (asked .any-measured .ensures) (steps .before .before .concrete-only .ensures)
+    ∙ ap (λ (rs : L.List Signature). survivorsOf (asked .concrete-only .result) rs (start .types .now)) listing
+    ∙ passed-survivors (start .switch) (start .function) _ _ (told .measured .given .0 .0)
+    (sym (there .tested .ensures) ∙ ap foundPaper (told .measured .given .1)) (asked .concrete-only .ensures)
 
 pub survivors-of-spec : {M : Type 1} → statement M
 survivors-of-spec =
     tie.close
     (tie.spec
-    known-requires
-    enum-known-why
-    enum-told
-    any-measured-requires
-    concrete-only-requires
-    rules-of-requires
+    (λ c κs. search needs)
+    (search needs)
+    (search needs)
+    (λ c κs. search needs)
+    (λ c κs. search needs)
     stepped-requires
     surviving-requires
     returns
