@@ -1,6 +1,6 @@
-// One call in the second pass, once its operands are typed: its rule by the crate `calls`, the conversions that the rule asks for,
-// the call's own line, and the result, measured if an operand is, in place of the operands; or the refusal, with its place in the expression. The first pass has
-// tested the function and the leaves' types, so what the call comes to is asked without a test.
+// One call in the second pass, once its operands are typed: its rule by the crate `calls`, the conversions that the rule asks for, the
+// call's own line, and the result in place of the operands, measured if one of them is; or the refusal, with its place in the expression.
+// The first pass has tested the function and the leaves' types, so what the call comes to is asked without a test.
 
 ghost use Rattle.rules.specs.Rule.{argumentsOf};
 ghost use Rattle.machine.specs.Line.{encode, conversions};

@@ -1,5 +1,5 @@
-// The operands of the second pass: the type of each, its mark, and the offset of its first byte, at which a call that has no rule for it is
-// refused. An expression has at most `MOST_NODES` nodes, so no more operands wait at once.
+// The operands of the second pass: the type of each, its mark, and the offset of its first byte, at which a call that has no rule for it
+// is refused. An expression has at most `MOST_NODES` nodes, so no more operands wait at once.
 
 ghost use mathlib.Core.Path.{_≡_};
 ghost use mathlib.Core.List.{[], _∷_};
