@@ -61,6 +61,7 @@ pub mod MeasuredAnswers
 pub mod TextTokens
 pub mod TextWords
 pub mod TextComplete
+pub mod TextSpelt
 pub mod TextSound
 pub mod TextWritten
 pub mod TextExact

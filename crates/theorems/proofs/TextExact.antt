@@ -22,7 +22,8 @@ use Rattle.text.specs.Grammar.{mostBytes, spaces, laid, treeOf, Spells}
 use Rattle.text.specs.Reading.{nodeAt, atEnd, whole, readingOf, reading}
 use Rattle.theorems.proofs.TextTokens.{spaces-length, end-at, Standing, standing}
 use Rattle.theorems.proofs.TextComplete.{met, over, ends-blank, NodeMet, node-met}
-use Rattle.theorems.proofs.TextSound.{NodeSpelt, NodeOk, node-ok}
+use Rattle.theorems.proofs.TextSpelt.{NodeSpelt, NodeOk}
+use Rattle.theorems.proofs.TextSound.{node-ok}
 
 -- ---- what is spelled is read
 

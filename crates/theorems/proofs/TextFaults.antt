@@ -21,7 +21,8 @@ use Rattle.text.specs.Reading.{nodeAt, atEnd, whole, reading}
 use Rattle.theorems.specs.Texts.{Laid, Begins, Strange, Limit, FirstFault}
 use Rattle.theorems.proofs.TextTokens.{spaces-length, end-at, Kind, Standing, standing}
 use Rattle.theorems.proofs.TextComplete.{met, over, ends-blank, NodeMet, node-met}
-use Rattle.theorems.proofs.TextSound.{Why, limit, strange, wrong, NodeSpelt, NodeFault, NodeOk, node-ok}
+use Rattle.theorems.proofs.TextSpelt.{Why, limit, strange, wrong, NodeSpelt, NodeFault, NodeOk}
+use Rattle.theorems.proofs.TextSound.{node-ok}
 use Rattle.theorems.proofs.TextLocal.{Whole, SameToken, same-token, NodeLocal, node-local}
 use Rattle.theorems.proofs.TextExact.{short-text}
 

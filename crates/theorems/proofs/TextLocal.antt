@@ -24,7 +24,8 @@ use Rattle.text.specs.Reading.{onRun, onOpen, onClose, onMore, argsAt, brackets
 use Rattle.theorems.specs.Texts.{BehindMeasured}
 use Rattle.theorems.proofs.TextTokens.{place-of, Standing, standing}
 use Rattle.theorems.proofs.TextComplete.{following, worded, next-arg, next-fault, node-least}
-use Rattle.theorems.proofs.TextSound.{NodeOk, ArgsOk, args-ok, node-ok}
+use Rattle.theorems.proofs.TextSpelt.{NodeOk, ArgsOk}
+use Rattle.theorems.proofs.TextSound.{args-ok, node-ok}
 
 -- ---- tokens
 

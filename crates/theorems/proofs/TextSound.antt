@@ -1,4 +1,4 @@
--- What the reader accepts is a layout of its tree, within the limits; what it refuses begins a layout of known names up to the fault's place.
+-- The reader's answers are right of its text: each is shown from the answers inside it, down to the runs.
 -- Assumes nothing.
 use mathlib.Core.Path.{_≡_, refl, sym, ap, ap₂, _∙_, subst⁻¹}
 use mathlib.Core.Bool.{Bool, true, false}
@@ -13,27 +13,18 @@ use Rattle.functions.specs.Functions.{functionCount}
 use Rattle.names.specs.Names.{Named, aType, aFunction, unknown, typeName, functionName, measuredName, same, named}
 use Rattle.names.proofs.SameBytes.{same-is, same-self}
 use Rattle.names.proofs.Named.{named-type, named-function}
-use Rattle.expressions.specs.Tree.{Tree, Trees, leaf, call, none, more, nodes, nodesAll, mostNodes}
-use Rattle.expressions.specs.Known.{Known, KnownAll}
-use Rattle.expressions.specs.Limits.{levels, levelsAll}
+use Rattle.expressions.specs.Tree.{Tree, Trees, leaf, call, none, more, nodes, mostNodes}
+use Rattle.expressions.specs.Known.{Known}
+use Rattle.expressions.specs.Limits.{levels}
 use Rattle.expressions.specs.Reading.{Reading, done, refused, andThen}
 use Rattle.text.specs.declared.token.Token.{Token}
 use Rattle.text.specs.declared.token.Token.the-variants.{Open, Close, Comma, Run, End}
 use Rattle.text.specs.Tokens.{spaceByte, openByte, closeByte, commaByte, next, place}
-use Rattle.text.specs.Grammar.{spaces, Layout, Others, leafLaid, measuredLaid, emptyLaid, callLaid, closeLaid, commaLaid, laid, laidOthers, treeOf, treesOf}
+use Rattle.text.specs.Grammar.{spaces, leafLaid, measuredLaid, emptyLaid, callLaid, closeLaid, commaLaid, laid, treeOf}
 use Rattle.text.specs.Reading.{onRun, onOpen, onClose, onMore, argsAt, bracketsAt, wordAt, typeAt, measuredAt, runNode, nodeAt}
 use Rattle.theorems.proofs.TextTokens.{clash, runs-apart, Standing, standing}
 use Rattle.theorems.proofs.TextComplete.{following, worded, node-least}
-
--- why a text is refused at p: for 9 and 14 a run stands there, which for 14 names nothing and is not `measured`
-pub data Why (s : List ℕ) (p : ℕ) : ℕ → Type 0 where
-  limit : (e : ℕ) → next s p ≡ Run p e → Why s p 9
-  strange : (e : ℕ) → next s p ≡ Run p e → named (take (e - p) (drop p s)) ≡ unknown → (take (e - p) (drop p s) ≡ measuredName → ⊥) → Why s p 14
-  wrong : Why s p 15
-
--- it begins with a node
-abbrev pub Node : List ℕ → Type 0
-Node rest = (behind : List ℕ) × (rest ≡ typeName 0 ++ behind)
+use Rattle.theorems.proofs.TextSpelt.{limit, strange, wrong, NodeSpelt, ArgsSpelt, NodeFault, ArgsFault, NodeOk, ArgsOk}
 
 -- so many spaces behind `measured`, with what makes them the beginning of a type
 type-behind : (k : ℕ) → (rest : List ℕ) × (j : ℕ) × (spaces k ++ rest ≡ spaceByte ∷ (spaces j ++ typeName 0))
@@ -41,77 +32,10 @@ type-behind zero = (spaceByte ∷ typeName 0, 0, refl)
 type-behind (suc j) = (typeName 0, j, refl)
 
 module _ (s : List ℕ) where
-  -- the text from `at` to a is laid out as this tree
-  pub record NodeSpelt (d at n : ℕ) (x : Tree) (a m : ℕ) : Type 0 where
-    pub layout : Layout
-    pub tree-is : treeOf layout ≡ x
-    pub text : drop at s ≡ laid layout ++ drop a s
-    pub known : Known functionCount x
-    pub low : levels x ≤ d
-    pub nodes-is : m ≡ n + nodes x
-    pub few : m ≤ mostNodes
-    pub later : at ≤ a
-    pub first : place (next s at) ≤ a
-    pub within : a ≤ length s
-
-  -- and from `at` to a as these, with the closing bracket
-  pub record ArgsSpelt (d at n : ℕ) (q : Trees) (a m : ℕ) : Type 0 where
-    pub layout : Layout
-    pub others : Others
-    pub trees-are : more (treeOf layout) (treesOf others) ≡ q
-    pub text : drop at s ≡ laid layout ++ (laidOthers others ++ drop a s)
-    pub known : KnownAll functionCount q
-    pub low : levelsAll q ≤ d
-    pub nodes-are : m ≡ n + nodesAll q
-    pub few : m ≤ mostNodes
-    pub later : at ≤ a
-    pub first : place (next s at) ≤ a
-    pub within : a ≤ length s
-
-  -- the text from `at` to p begins a layout; for 9 and 14 one in which a node begins at p, for 14 one within the limits
-  pub record NodeFault (d at n k p : ℕ) : Type 0 where
-    pub why : Why s p k
-    pub later : at ≤ p
-    pub first : place (next s at) ≤ p
-    pub within : p ≤ length s
-    pub before : List ℕ
-    pub text : drop at s ≡ before ++ drop p s
-    pub rest : List ℕ
-    pub may : (k ≡ 15 → ⊥) → Node rest
-    pub layout : Layout
-    pub completes : before ++ rest ≡ laid layout
-    pub known : Known functionCount (treeOf layout)
-    pub small : k ≡ 14 → (levels (treeOf layout) ≤ d) × (n + nodes (treeOf layout) ≤ mostNodes)
-
-  pub record ArgsFault (d at n k p : ℕ) : Type 0 where
-    pub why : Why s p k
-    pub later : at ≤ p
-    pub first : place (next s at) ≤ p
-    pub within : p ≤ length s
-    pub before : List ℕ
-    pub text : drop at s ≡ before ++ drop p s
-    pub rest : List ℕ
-    pub may : (k ≡ 15 → ⊥) → Node rest
-    pub layout : Layout
-    pub others : Others
-    pub completes : before ++ rest ≡ laid layout ++ laidOthers others
-    pub known : Known functionCount (treeOf layout)
-    pub all-known : KnownAll functionCount (treesOf others)
-    pub small : k ≡ 14 → (levels (treeOf layout) ≤ d) × (levelsAll (treesOf others) ≤ d)
-        × (n + nodes (treeOf layout) + nodesAll (treesOf others) ≤ mostNodes)
-
-  abbrev pub NodeOk : ℕ → ℕ → ℕ → Reading Tree → Type 0
-  NodeOk d at n (done x a m) = NodeSpelt d at n x a m
-  NodeOk d at n (refused k p) = NodeFault d at n k p
-
-  abbrev pub ArgsOk : ℕ → ℕ → ℕ → Reading Trees → Type 0
-  ArgsOk d at n (done q a m) = ArgsSpelt d at n q a m
-  ArgsOk d at n (refused k p) = ArgsFault d at n k p
-
-  module _ (d : ℕ) (node : ℕ → ℕ → Reading Tree) (ok : (at n : ℕ) → at ≤ length s → NodeOk d at n (node at n)) where
+  module _ (d : ℕ) (node : ℕ → ℕ → Reading Tree) (ok : (at n : ℕ) → at ≤ length s → NodeOk s d at n (node at n)) where
     -- behind an argument
-    module _ (at n : ℕ) (x : Tree) (a m : ℕ) (h : NodeSpelt d at n x a m) where
-      closes : (p : ℕ) → Standing s a (Close p) → ArgsSpelt d at n (more x none) (p + 1) m
+    module _ (at n : ℕ) (x : Tree) (a m : ℕ) (h : NodeSpelt s d at n x a m) where
+      closes : (p : ℕ) → Standing s a (Close p) → ArgsSpelt s d at n (more x none) (p + 1) m
       unfolding laid treeOf nodes levels Known
       closes p t =
           let c = t .kind in
@@ -131,7 +55,7 @@ module _ (s : List ℕ) where
             within = omega (arith, c .here);
           }
 
-      goes : (p : ℕ) → Standing s a (Comma p) → (r : Reading Trees) → ArgsOk d (p + 1) m r → ArgsOk d at n (andThen r (λ es. done (more x es)))
+      goes : (p : ℕ) → Standing s a (Comma p) → (r : Reading Trees) → ArgsOk s d (p + 1) m r → ArgsOk s d at n (andThen r (λ es. done (more x es)))
       unfolding laid treeOf nodes levels Known
       goes p t (refused k q) g =
           let c = t .kind in
@@ -170,7 +94,7 @@ module _ (s : List ℕ) where
             within = g .within;
           }
 
-      stops : (t : Token) → Standing s a t → ArgsFault d at n 15 (place t)
+      stops : (t : Token) → Standing s a t → ArgsFault s d at n 15 (place t)
       unfolding laid treeOf Known
       stops u t = record {
         why = wrong;
@@ -189,7 +113,7 @@ module _ (s : List ℕ) where
         small = λ z. absurd (omega arith);
       }
 
-    fault-first : (at n k p : ℕ) → NodeFault d at n k p → ArgsFault d at n k p
+    fault-first : (at n k p : ℕ) → NodeFault s d at n k p → ArgsFault s d at n k p
     unfolding laid treeOf nodes levels Known
     fault-first at n k p f = record {
       why = f .why;
@@ -212,20 +136,20 @@ module _ (s : List ℕ) where
       small = λ z. let y = f .small z in (y .0, omega arith, omega (arith, y .1));
     }
 
-    pub args-ok : (left at n : ℕ) → at ≤ length s → n ≤ mostNodes → mostNodes < left + n → ArgsOk d at n (argsAt named s node left at n)
+    pub args-ok : (left at n : ℕ) → at ≤ length s → n ≤ mostNodes → mostNodes < left + n → ArgsOk s d at n (argsAt named s node left at n)
     unfolding argsAt nodes
     args-ok zero at n h few fuel = absurd (omega arith)
     args-ok (suc left) at n h few fuel = go (node at n) (ok at n h) (args-ok left)
       where
         Rest : Type 0
-        Rest = (at n : ℕ) → at ≤ length s → n ≤ mostNodes → mostNodes < left + n → ArgsOk d at n (argsAt named s node left at n)
+        Rest = (at n : ℕ) → at ≤ length s → n ≤ mostNodes → mostNodes < left + n → ArgsOk s d at n (argsAt named s node left at n)
 
-        go : (r : Reading Tree) → NodeOk d at n r → Rest → ArgsOk d at n (andThen r (following s node left))
+        go : (r : Reading Tree) → NodeOk s d at n r → Rest → ArgsOk s d at n (andThen r (following s node left))
         go (refused k p) f rest = fault-first at n k p f
         go (done x a m) g rest = sign (next s a) (standing s a)
           where
             sign : (t : Token) → Standing s a t
-                → ArgsOk d at n (onMore t (λ behind. done (more x none) behind m)
+                → ArgsOk s d at n (onMore t (λ behind. done (more x none) behind m)
                 (λ behind. andThen (argsAt named s node left behind m) (λ es. done (more x es))))
             sign (Close p) t = closes at n x a m g p t
             sign (Comma p) t =
@@ -243,7 +167,7 @@ module _ (s : List ℕ) where
       run-text : (w : List ℕ) → run ≡ w → drop at s ≡ spaces (t .blank) ++ (w ++ drop e s)
       run-text w h = let r = t .kind in t .text ∙ ap (λ l. spaces (t .blank) ++ l) (r .text ∙ ap (λ l. l ++ drop e s) h)
 
-      leaf-ok : (c : ℕ) → named run ≡ aType c → NodeSpelt (suc d) at n (leaf (record { code = c; measured = false })) e (n + 1)
+      leaf-ok : (c : ℕ) → named run ≡ aType c → NodeSpelt s (suc d) at n (leaf (record { code = c; measured = false })) e (n + 1)
       unfolding laid treeOf nodes levels Known
       leaf-ok c h =
           let r = t .kind in
@@ -261,7 +185,7 @@ module _ (s : List ℕ) where
             within = r .within;
           }
 
-      strange-fault : named run ≡ unknown → (run ≡ measuredName → ⊥) → NodeFault (suc d) at n 14 p
+      strange-fault : named run ≡ unknown → (run ≡ measuredName → ⊥) → NodeFault s (suc d) at n 14 p
       unfolding laid treeOf nodes levels Known
       strange-fault h other = record {
         why = strange e (t .again) h other;
@@ -280,7 +204,7 @@ module _ (s : List ℕ) where
 
       -- `measured`
       module _ (is : run ≡ measuredName) where
-        no-type : (u : Token) → Standing s e u → NodeFault (suc d) at n 15 (place u)
+        no-type : (u : Token) → Standing s e u → NodeFault s (suc d) at n 15 (place u)
         unfolding laid treeOf Known
         no-type u v =
             let (rest, j, makes) = type-behind (v .blank) in
@@ -300,12 +224,12 @@ module _ (s : List ℕ) where
             }
 
         type-ok : (p′ e′ : ℕ) → Standing s e (Run p′ e′) → (c : ℕ) → named (take (e′ - p′) (drop p′ s)) ≡ aType c
-            → NodeSpelt (suc d) at n (leaf (record { code = c; measured = true })) e′ (n + 1)
+            → NodeSpelt s (suc d) at n (leaf (record { code = c; measured = true })) e′ (n + 1)
         unfolding laid treeOf nodes levels Known
         type-ok p′ e′ v c h = go (v .blank) (v .place-is) (v .text)
           where
             go : (k : ℕ) → p′ ≡ e + k → drop e s ≡ spaces k ++ drop p′ s
-                → NodeSpelt (suc d) at n (leaf (record { code = c; measured = true })) e′ (n + 1)
+                → NodeSpelt s (suc d) at n (leaf (record { code = c; measured = true })) e′ (n + 1)
             go zero q x = absurd (runs-apart s p e p′ e′ (t .kind) (v .kind) (omega arith))
             go (suc j) q x =
                 let w = named-type (take (e′ - p′) (drop p′ s)) c h in
@@ -326,7 +250,7 @@ module _ (s : List ℕ) where
                 }
 
         measured-ok : (u : Token) → Standing s e u
-            → NodeOk (suc d) at n (onRun u (λ p′ e′. typeAt named s p′ e′ n (named (take (e′ - p′) (drop p′ s)))))
+            → NodeOk s (suc d) at n (onRun u (λ p′ e′. typeAt named s p′ e′ n (named (take (e′ - p′) (drop p′ s)))))
         unfolding typeAt
         measured-ok (Open p′) v = no-type (Open p′) v
         measured-ok (Close p′) v = no-type (Close p′) v
@@ -334,7 +258,7 @@ module _ (s : List ℕ) where
         measured-ok (End p′) v = no-type (End p′) v
         measured-ok (Run p′ e′) v = go (named (take (e′ - p′) (drop p′ s))) refl
           where
-            go : (w : Named) → named (take (e′ - p′) (drop p′ s)) ≡ w → NodeOk (suc d) at n (typeAt named s p′ e′ n w)
+            go : (w : Named) → named (take (e′ - p′) (drop p′ s)) ≡ w → NodeOk s (suc d) at n (typeAt named s p′ e′ n w)
             go (aType c) h = type-ok p′ e′ v c h
             go (aFunction f) h = no-type (Run p′ e′) v
             go unknown h = no-type (Run p′ e′) v
@@ -347,7 +271,7 @@ module _ (s : List ℕ) where
         name-text : drop at s ≡ spaces (t .blank) ++ (functionName f ++ drop e s)
         name-text = run-text (functionName f) (named-function run f h .1)
 
-        no-bracket : (u : Token) → Standing s e u → NodeFault (suc d) at n 15 (place u)
+        no-bracket : (u : Token) → Standing s e u → NodeFault s (suc d) at n 15 (place u)
         unfolding laid treeOf Known
         no-bracket u v = record {
           why = wrong;
@@ -369,7 +293,7 @@ module _ (s : List ℕ) where
           open-text = let o = v .kind in name-text
               ∙ ap (λ l. spaces (t .blank) ++ (functionName f ++ l)) (v .text ∙ ap (λ l. spaces (v .blank) ++ l) (o .text))
 
-          empty-ok : (c : ℕ) → Standing s (b + 1) (Close c) → NodeSpelt (suc d) at n (call f none) (c + 1) (n + 1)
+          empty-ok : (c : ℕ) → Standing s (b + 1) (Close c) → NodeSpelt s (suc d) at n (call f none) (c + 1) (n + 1)
           unfolding laid treeOf nodes levels Known
           empty-ok c u =
               let x = u .kind in
@@ -387,7 +311,7 @@ module _ (s : List ℕ) where
                 within = omega (arith, x .here);
               }
 
-          call-ok : (r : Reading Trees) → ArgsOk d (b + 1) (n + 1) r → NodeOk (suc d) at n (andThen r (λ es. done (call f es)))
+          call-ok : (r : Reading Trees) → ArgsOk s d (b + 1) (n + 1) r → NodeOk s (suc d) at n (andThen r (λ es. done (call f es)))
           unfolding laid treeOf nodes levels Known
           call-ok (refused k q) g = record {
             why = g .why;
@@ -416,11 +340,11 @@ module _ (s : List ℕ) where
             within = g .within;
           }
 
-          args-in : ArgsOk d (b + 1) (n + 1) (argsAt named s node (suc mostNodes) (b + 1) (n + 1))
+          args-in : ArgsOk s d (b + 1) (n + 1) (argsAt named s node (suc mostNodes) (b + 1) (n + 1))
           args-in = args-ok (suc mostNodes) (b + 1) (n + 1) (omega (arith, v .kind .here)) (omega arith) (omega arith)
 
           inside-ok : (u : Token) → Standing s (b + 1) u
-              → NodeOk (suc d) at n (andThen (onClose u (λ behind. done none behind (n + 1))
+              → NodeOk s (suc d) at n (andThen (onClose u (λ behind. done none behind (n + 1))
               (argsAt named s node (suc mostNodes) (b + 1) (n + 1))) (λ es. done (call f es)))
           inside-ok (Close c) u = empty-ok c u
           inside-ok (Open c) u = call-ok (argsAt named s node (suc mostNodes) (b + 1) (n + 1)) args-in
@@ -429,7 +353,7 @@ module _ (s : List ℕ) where
           inside-ok (End c) u = call-ok (argsAt named s node (suc mostNodes) (b + 1) (n + 1)) args-in
 
         brackets-ok : (u : Token) → Standing s e u
-            → NodeOk (suc d) at n (andThen (onOpen u
+            → NodeOk s (suc d) at n (andThen (onOpen u
             (λ inside. onClose (next s inside) (λ behind. done none behind (n + 1))
             (argsAt named s node (suc mostNodes) inside (n + 1)))) (λ es. done (call f es)))
         brackets-ok (Open b) v = inside-ok b v (next s (b + 1)) (standing s (b + 1))
@@ -438,25 +362,25 @@ module _ (s : List ℕ) where
         brackets-ok (Run b b′) v = no-bracket (Run b b′) v
         brackets-ok (End b) v = no-bracket (End b) v
 
-      word-ok : (run ≡ measuredName → ⊥) → (w : Named) → named run ≡ w → NodeOk (suc d) at n (wordAt named s node p e n w)
+      word-ok : (run ≡ measuredName → ⊥) → (w : Named) → named run ≡ w → NodeOk s (suc d) at n (wordAt named s node p e n w)
       unfolding wordAt bracketsAt
       word-ok other (aType c) h = leaf-ok c h
       word-ok other (aFunction f) h = brackets-ok f h (next s e) (standing s e)
       word-ok other unknown h = strange-fault h other
 
-      run-ok : NodeOk (suc d) at n (worded s node p e n run)
+      run-ok : NodeOk s (suc d) at n (worded s node p e n run)
       unfolding measuredAt
       run-ok = go (same run measuredName) refl
         where
           go : (b : Bool) → same run measuredName ≡ b
-              → NodeOk (suc d) at n (choose b (measuredAt named s e n) (wordAt named s node p e n (named run)))
+              → NodeOk s (suc d) at n (choose b (measuredAt named s e n) (wordAt named s node p e n (named run)))
           go true h = measured-ok (same-is run measuredName h) (next s e) (standing s e)
           go false h =
               word-ok (λ is. clash (sym h ∙ ap (λ w. same w measuredName) is ∙ same-self measuredName)) (named run) refl
 
   -- a token that begins no node, and a run past the limits
   module _ (d at n : ℕ) (h : at ≤ length s) where
-    misplaced-fault : (u : Token) → Standing s at u → NodeFault d at n 15 (place u)
+    misplaced-fault : (u : Token) → Standing s at u → NodeFault s d at n 15 (place u)
     unfolding laid treeOf Known
     misplaced-fault u t = record {
       why = wrong;
@@ -473,7 +397,7 @@ module _ (s : List ℕ) where
       small = λ z. absurd (omega arith);
     }
 
-    limit-fault : (p e : ℕ) → Standing s at (Run p e) → NodeFault d at n 9 p
+    limit-fault : (p e : ℕ) → Standing s at (Run p e) → NodeFault s d at n 9 p
     unfolding laid treeOf Known
     limit-fault p e t = record {
       why = limit e (t .again);
@@ -490,11 +414,11 @@ module _ (s : List ℕ) where
       small = λ z. absurd (omega arith);
     }
 
-  pub node-ok : (d at n : ℕ) → at ≤ length s → NodeOk d at n (nodeAt named s d at n)
+  pub node-ok : (d at n : ℕ) → at ≤ length s → NodeOk s d at n (nodeAt named s d at n)
   unfolding nodeAt runNode
   node-ok zero at n h = go (next s at) (standing s at)
     where
-      go : (t : Token) → Standing s at t → NodeOk 0 at n (onRun t (λ p e. refused 9 p))
+      go : (t : Token) → Standing s at t → NodeOk s 0 at n (onRun t (λ p e. refused 9 p))
       go (Run p e) t = limit-fault 0 at n h p e t
       go (Open p) t = misplaced-fault 0 at n h (Open p) t
       go (Close p) t = misplaced-fault 0 at n h (Close p) t
@@ -502,14 +426,14 @@ module _ (s : List ℕ) where
       go (End p) t = misplaced-fault 0 at n h (End p) t
   node-ok (suc d) at n h = go (node-ok d) (next s at) (standing s at)
     where
-      run : ((at n : ℕ) → at ≤ length s → NodeOk d at n (nodeAt named s d at n)) → (p e : ℕ) → Standing s at (Run p e) → (b : Bool)
+      run : ((at n : ℕ) → at ≤ length s → NodeOk s d at n (nodeAt named s d at n)) → (p e : ℕ) → Standing s at (Run p e) → (b : Bool)
           → ltb n mostNodes ≡ b
-          → NodeOk (suc d) at n (choose b (runNode named s (nodeAt named s d) p e n) (refused 9 p))
+          → NodeOk s (suc d) at n (choose b (runNode named s (nodeAt named s d) p e n) (refused 9 p))
       run below p e t true few = run-ok d (nodeAt named s d) below at n p e t (ltb-true n mostNodes few)
       run below p e t false few = limit-fault (suc d) at n h p e t
 
-      go : ((at n : ℕ) → at ≤ length s → NodeOk d at n (nodeAt named s d at n)) → (t : Token) → Standing s at t
-          → NodeOk (suc d) at n (onRun t (λ p e. choose (ltb n mostNodes) (runNode named s (nodeAt named s d) p e n) (refused 9 p)))
+      go : ((at n : ℕ) → at ≤ length s → NodeOk s d at n (nodeAt named s d at n)) → (t : Token) → Standing s at t
+          → NodeOk s (suc d) at n (onRun t (λ p e. choose (ltb n mostNodes) (runNode named s (nodeAt named s d) p e n) (refused 9 p)))
       go below (Run p e) t = run below p e t (ltb n mostNodes) refl
       go below (Open p) t = misplaced-fault (suc d) at n h (Open p) t
       go below (Close p) t = misplaced-fault (suc d) at n h (Close p) t

@@ -24,7 +24,8 @@ use Rattle.theorems.specs.FirstPass.{AbstractAt}
 use Rattle.theorems.specs.Texts.{Refused, Theorem}
 use Rattle.theorems.proofs.AcceptsExactly.{accepts-only, measurable-accepted, abstract-refused}
 use Rattle.theorems.proofs.TextTokens.{Standing, standing}
-use Rattle.theorems.proofs.TextSound.{Why, limit, strange, wrong, NodeOk, node-ok}
+use Rattle.theorems.proofs.TextSpelt.{Why, limit, strange, wrong, NodeOk}
+use Rattle.theorems.proofs.TextSound.{node-ok}
 use Rattle.theorems.proofs.TextWritten.{written-spells}
 use Rattle.theorems.proofs.TextFaults.{first-fault}
 use Rattle.theorems.proofs.TextExact.{read-if, read-only-if, one-spelled}
