@@ -151,7 +151,7 @@ rule-of-set f i h e = simp (lt-ltb f functionCount h, e)
 
 -- ---- sizes: Min has 44 rules, Mix 32 of which 28 are distinct, Transpose 36
 
-abbrev sameCodes : List ℕ → List ℕ → Bool
+abbrev pub sameCodes : List ℕ → List ℕ → Bool
 sameCodes [] [] = true
 sameCodes [] (y ∷ ys) = false
 sameCodes (x ∷ xs) [] = false

@@ -48,7 +48,7 @@ pairs-at d (k ∷ ks) ss (suc q) r h l =
     ∙ getD-append-add (map (typeCode k) ss) (pairs ks ss) (q * length ss + r) 0
     ∙ pairs-at d ks ss q r h (le-of-suc-le-suc l)
 
-every-getD : (p : ℕ → Bool) (ts : List ℕ) (i : ℕ) → i < length ts → every p ts ≡ true → p (getD ts i 0) ≡ true
+pub every-getD : (p : ℕ → Bool) (ts : List ℕ) (i : ℕ) → i < length ts → every p ts ≡ true → p (getD ts i 0) ≡ true
 every-getD p [] i h e = absurd (not-suc-le-zero h)
 every-getD p (t ∷ ts) zero h e = both-true (p t) (every p ts) e .0
 every-getD p (t ∷ ts) (suc i) h e = every-getD p ts i (le-of-suc-le-suc h) (both-true (p t) (every p ts) e .1)

@@ -76,7 +76,7 @@ conclusion-known c t v e =
 
 -- ---- the rules
 
-every-replicate : (p : ℕ → Bool) (n t : ℕ) → p t ≡ true → every p (replicate n t) ≡ true
+pub every-replicate : (p : ℕ → Bool) (n t : ℕ) → p t ≡ true → every p (replicate n t) ≡ true
 every-replicate p zero t e = refl
 every-replicate p (suc n) t e = both-true e (every-replicate p n t e)
 

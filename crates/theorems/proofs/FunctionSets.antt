@@ -259,7 +259,7 @@ module _ (r : Regular) (able : Callable r) (some : 0 < length (regularRules r)) 
             (lasts (λ y. allConclude y ≡ true) stepRegular step-concludes (stepsFrom switch 0 ts) r (able .concludes)) (rest-shape e)
             (x .rule) (rulesOf xs) q
 
-  regular-means : Means (regular r) (regularRules r)
+  pub regular-means : Means (regular r) (regularRules r)
   regular-means = record {
     least = asked countPaper (regularCount r) _ regular-count (count.Count (longest (regularRules r))) refl;
     most = asked countPaper (regularCount r) _ regular-count (count.Count (longest (regularRules r))) refl;

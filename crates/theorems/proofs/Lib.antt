@@ -37,6 +37,7 @@ pub mod OneLength
 pub mod FunctionSets
 pub mod CallSteps
 pub mod Calls
+pub mod AcceptedCalls
 -- expressions and their worksheets
 pub mod Levels
 pub mod Complete
@@ -57,6 +58,15 @@ pub mod MeasuredRuns
 pub mod MeasuredTypes
 pub mod Measured
 pub mod MeasuredAnswers
+-- WGSL's ranks
+pub mod WgslArguments
+pub mod WgslLists
+pub mod WgslTypes
+pub mod WgslRegulars
+pub mod WgslExact
+pub mod WgslFunctions
+pub mod WgslCalls
+pub mod WgslHandMade
 -- texts
 pub mod TextTokens
 pub mod TextWords

@@ -2,35 +2,28 @@
 -- 2 and 3 say of their contracts, and by what is proved of rules, of the typer and of the machine. Assumes nothing.
 use mathlib.Core.Path.{_≡_, refl, sym, ap, _∙_}
 use mathlib.Core.Bool.{Bool, true, false, true≢false}
-use mathlib.Core.List.{List, [], _∷_, _++_}
+use mathlib.Core.List.{List, [], _∷_}
 use Prim.Native.Nat.{ℕ, _<_}
 use native.Mathlib.Omega.{arith}
-use native.Mathlib.Decide.{decLt}
-use borrow.Author.Tests.{eqb-true, eqb-false}
-use lib.Dec.{eqb}
-use lib.ListN.{length, getD}
+use lib.ListN.{length}
 use Rattle.scalars.specs.Mask.{both}
 use Rattle.scalars.specs.Paper.{accepted}
 use Rattle.types.specs.Domain.{isAbstract}
 use Rattle.types.specs.Operand.{measuredMark, markOf, anyMark, concreteOnly}
 use Rattle.types.specs.declared.operand.Operand.{Operand}
-use Rattle.rules.specs.Signature.{Signature}
 use Rattle.rules.specs.Rule.{ruleOf}
-use Rattle.rules.specs.RulePaper.{ruleValues}
-use Rattle.functions.specs.Functions.{functionCount, listingOf}
+use Rattle.functions.specs.Functions.{listingOf}
 use Rattle.lists.specs.declared.list.Chosen.{Chosen}
-use Rattle.calls.specs.Choice.{Choice, chosen, wrongCount, noneAfter, noneConcrete}
-use Rattle.calls.specs.Call.{answered, withMark}
+use Rattle.calls.specs.CallPaper.{callPaper}
+use Rattle.calls.specs.declared.outcome.CallAnswer.the-variants.{Called}
 use Rattle.machine.specs.Machine.{Outcome, ended, stopped, runBytes}
 use Rattle.machine.specs.Run.{runPaper, ranOf}
 use Rattle.worksheet.specs.Typing.{typePaper}
-use Rattle.theorems.specs.Taking.{Says}
-use Rattle.theorems.specs.InOrder.{AllRight, FirstWrong}
 use Rattle.theorems.specs.Calls.{Call}
 use Rattle.theorems.specs.Measured.{ConcreteResults, NoneAbstract, Answers}
 use Rattle.expressions.proofs.Answers.{accepted-refused}
-use Rattle.theorems.proofs.InOrder as order
 use Rattle.theorems.proofs.Calls.{demand-2}
+use Rattle.theorems.proofs.AcceptedCalls.{accepted-call}
 use Rattle.theorems.proofs.Demand3.{for-trees}
 use Rattle.theorems.proofs.Expressions.{demand-3}
 use Rattle.theorems.proofs.MeasuredRules.{of-functions}
@@ -52,56 +45,18 @@ asks : (switch b : Bool) → b ≡ true → concreteOnly switch b ≡ true
 asks true b e = refl
 asks false b e = e
 
-module _ (switch : Bool) (f : ℕ) (ts ms : List ℕ) (c : Chosen) where
-  -- the values of an accepted call with a measured result
-  abbrev values : List ℕ
-  values = (c .index ∷ ruleValues (c .rule)) ++ (measuredMark ∷ [])
-
-  module _ (call : Call switch f ts ms (accepted values)) where
-    -- its operands are in order
-    wrong-refused : f < functionCount → (n i : ℕ) → FirstWrong ts ms n i → ⊥
-    wrong-refused h n i w =
-        order.wrong-number (getD ts i 0) (getD ms i 0) n
-        (λ e. accepted-refused (call .unknownOperand i .1 (h, rw e at w)))
-        (λ e. accepted-refused (call .abstractOperand i .1 (h, rw e at w)))
-        (w .wrong)
-
-    ordered : f < functionCount → AllRight ts ms
-    ordered h = lengths (eqb (length ts) (length ms)) refl
-      where
-        tested : order.Outcome ts ms 0 → AllRight ts ms
-        tested (order.passes all passed) = all
-        tested (order.refuses n i w refused) = absurd (wrong-refused h n i w)
-
-        lengths : (b : Bool) → eqb (length ts) (length ms) ≡ b → AllRight ts ms
-        lengths true e = tested (order.outcome ts ms 0 (eqb-true (length ts) (length ms) e))
-        lengths false e = accepted-refused (call .unequal _ .1 (h, eqb-false (length ts) (length ms) e, refl))
-
-    -- the chosen rule has arguments, none of them abstract
-    concrete-result : f < functionCount → (d : Choice) → Says (concreteOnly switch (anyMark ms)) (listingOf f) ts d
-        → accepted values ≡ withMark (anyMark ms) (answered d) → length ts ≡ length ms → isAbstract (c .rule .result) ≡ false
-    unfolding ruleOf ConcreteResults
-    concrete-result h (chosen i r) best e l =
-        let any : anyMark ms ≡ true = marked (anyMark ms) cc in
-        let is : c .rule .result ≡ r .result = cc in
-        let some = some-mark ms any in
-        ap isAbstract is ∙ of-functions f i r (best .there) (omega (arith, best .taken .many)) (best .taken .allowed (asks switch (anyMark ms) any))
-    concrete-result h wrongCount s e l = accepted-refused e
-    concrete-result h (noneAfter part k) s e l = accepted-refused e
-    concrete-result h noneConcrete s e l = accepted-refused e
-
-    known-result : f < functionCount → isAbstract (c .rule .result) ≡ false
-    known-result h =
-        let all = ordered h in
-        let (d, says, e) = call .byListing h all in
-        concrete-result h d says e (all .beside)
-
-    called-concrete : isAbstract (c .rule .result) ≡ false
-    called-concrete = go (decLt f functionCount)
-      where
-        go : Dec (f < functionCount) → isAbstract (c .rule .result) ≡ false
-        go (yes h) = known-result h
-        go (no h) = accepted-refused (call .unknownFunction .1 (omega arith))
+-- the rule of a call with a measured result has arguments, none of them abstract
+called-concrete : (switch : Bool) (f : ℕ) (ts ms : List ℕ) (c : Chosen) → Call switch f ts ms (callPaper (Called c true))
+    → isAbstract (c .rule .result) ≡ false
+unfolding ruleOf ConcreteResults
+called-concrete switch f ts ms c call =
+    let d = accepted-call switch f ts ms c true call in
+    let any : anyMark ms ≡ true = sym (d .mark) in
+    let is : c .rule .result ≡ d .rule .result = ap (λ r. r .result) (d .is) in
+    let some = some-mark ms any in
+    let beside = d .beside in
+    ap isAbstract is
+    ∙ of-functions f (c .index) (d .rule) (d .best .there) (omega (arith, d .best .taken .many)) (d .best .taken .allowed (asks switch (anyMark ms) any))
 
 -- ---- runs
 
