@@ -1,6 +1,6 @@
 //! Puts the same questions to the crate and to the library and counts the answers that differ: rules, calls, sets made by
-//! hand, consensus, expressions, worksheets and texts. Where the questions are few enough they are all put; the rest are drawn
-//! from the seed.
+//! hand, what WGSL's ranks say of the preferred rules of both, consensus, expressions, worksheets and texts. Where the
+//! questions are few enough they are all put; the rest are drawn from the seed.
 
 use std::panic::{self, AssertUnwindSafe};
 
@@ -13,6 +13,7 @@ use crate::machine;
 use crate::numbering::{Operand, LAST_CODE, MEASURED, NONE, OPAQUE, SCALAR_COUNT};
 use crate::ours::{self, TypeAnswer};
 use crate::random::Random;
+use crate::rank_questions::{compare_call_ranks, compare_set_ranks};
 use crate::readings::{self, Reading};
 use crate::sets::compare_sets;
 use crate::tally::{beginning, differing, grouped, Tally};
@@ -31,6 +32,8 @@ pub fn compare(seed: u64, quick: bool) -> bool {
         compare_unknown(&rules, &accepted, seed),
         compare_room(&rules, &accepted),
         compare_sets(&rules, effort.sets, seed),
+        compare_call_ranks(&rules, &accepted),
+        compare_set_ranks(&rules),
         rules.with_consensus(|asker| compare_consensus(asker, &effort, seed)),
         compare_expressions(&rules, &effort, seed),
         compare_worksheets(&rules, &effort, seed),

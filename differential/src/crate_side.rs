@@ -47,6 +47,19 @@ impl RuleCodes {
     }
 }
 
+impl From<ours::Rule> for RuleCodes {
+    fn from(rule: ours::Rule) -> RuleCodes {
+        RuleCodes { arguments: rule.arguments, result: rule.result }
+    }
+}
+
+/// The rule that a side prefers, and the rules that survive, in its order.
+#[derive(Clone, Debug, PartialEq, Eq)]
+pub struct Choice {
+    pub preferred: RuleCodes,
+    pub survivors: Vec<RuleCodes>,
+}
+
 /// Why a call has no rule, with the number of the argument at fault.
 #[derive(Clone, Copy, Debug, PartialEq, Eq)]
 pub enum Refusal {
@@ -155,6 +168,12 @@ impl Crate {
     pub fn preferred(&self, function: u8, operands: &[u8], concrete_only: bool) -> Result<Rule, Refusal> {
         let set = self.resolve(FUNCTIONS[function as usize], operands, concrete_only)?;
         Ok(set.most_preferred())
+    }
+
+    /// The same, with the survivors as the crate lists them.
+    pub fn choice(&self, function: u8, operands: &[u8], concrete_only: bool) -> Result<Choice, Refusal> {
+        let set = self.resolve(FUNCTIONS[function as usize], operands, concrete_only)?;
+        Ok(Choice { preferred: rule_codes(&set.most_preferred()), survivors: self.codes_of(&set) })
     }
 
     fn resolve(

@@ -16,6 +16,8 @@ mod machine;
 mod numbering;
 mod ours;
 mod random;
+mod rank_questions;
+mod ranks;
 mod readings;
 mod sets;
 mod stored_texts;

@@ -3,8 +3,9 @@
 //! `==`, over every field.
 
 pub use azwukran::{
-    call, consensus, mask_bytes, read_text, rule, run, type_expression, write_text, ChosenAnswer, ConsensusAnswer,
-    Giver, List, MaskAnswer, Regular, RegularAnswer, RuleAnswer, RunAnswer, TextAnswer, TypeAnswer,
+    call, consensus, mask_bytes, members, read_text, rule, run, type_expression, write_text, ChosenAnswer,
+    ConsensusAnswer, Giver, List, MaskAnswer, Regular, RegularAnswer, Rule, RuleAnswer, RunAnswer, TextAnswer,
+    TypeAnswer,
 };
 
 use crate::numbering::{Operand, NONE};
