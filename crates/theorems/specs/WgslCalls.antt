@@ -57,7 +57,7 @@ pub record Survivor (f m i : ℕ) (q : Signature) : Type 0 where
   pub over : overWgsl (q .arguments) ≡ true
 
 -- of a call's rule and the mask of its survivors
-pub record Preferred (f : ℕ) (ts : List ℕ) (c : Chosen) (m : ℕ) : Type 0 where
+pub record CallByRank (f : ℕ) (ts : List ℕ) (c : Chosen) (m : ℕ) : Type 0 where
   pub over : overWgsl (argumentsOf (c .rule)) ≡ true
   pub unbeaten : (i : ℕ) (q : Signature) → Survivor f m i q → Outranks ts q (signatureOf (c .rule)) → ⊥
   pub same : (i : ℕ) (q : Signature) → Survivor f m i q → (signatureOf (c .rule) ≡ q) ⊎ Outranks ts (signatureOf (c .rule)) q
@@ -68,4 +68,4 @@ abbrev pub Answers : Type 0
 Answers =
     Promises single.survivors_of.ended single.survivors_of.Reads.Post
     (λ κs a q s. (r : CallAnswer) → single.call_of.Reads.Post κs a r s → overWgsl (a .1 .0 .now) ≡ true
-    → (c : Chosen) (measured : Bool) → r ≡ Called c measured → (m : ℕ) → q ≡ Members m → Preferred (a .0) (a .1 .0 .now) c m)
+    → (c : Chosen) (measured : Bool) → r ≡ Called c measured → (m : ℕ) → q ≡ Members m → CallByRank (a .0) (a .1 .0 .now) c m)
