@@ -11,7 +11,6 @@ use Rattle.rules.proofs.Records.{record-says}
 use Rattle.functions.specs.Functions.{listingOf}
 use Rattle.functions.proofs.Database.{four-arguments}
 use Rattle.lists.specs.declared.list.Chosen.{Chosen}
-use Rattle.calls.specs.Choice.{chosen, resolve}
 use Rattle.calls.specs.CallPaper.{callPaper}
 use Rattle.calls.specs.SurvivorsPaper.{survivorsPaper}
 use Rattle.calls.specs.declared.outcome.CallAnswer.the-variants.{Called}
@@ -19,7 +18,6 @@ use Rattle.theorems.specs.Taking.{Taken, Survive}
 use Rattle.theorems.specs.Calls.{Call}
 use Rattle.theorems.specs.Wgsl.{overWgsl, Outranks, Ranked}
 use Rattle.theorems.specs.WgslCalls.{Survivor, CallByRank, Answers}
-use Rattle.theorems.proofs.Demand2.{of-functions}
 use Rattle.theorems.proofs.Calls.{demand-2}
 use Rattle.theorems.proofs.AcceptedCalls.{accepted-call}
 use Rattle.theorems.proofs.WgslFunctions.{preferred-is-wgsl, ties}
@@ -32,9 +30,8 @@ by-rank switch f ts ms c measured m call survive w =
     let d = accepted-call switch f ts ms c measured call in
     let p = d .rule in
     let says : signatureOf (c .rule) ≡ p = ap signatureOf (d .is) ∙ record-says p (four-arguments f (c .index) p (d .best .there)) in
-    let choice : resolve asks (listingOf f) ts ≡ chosen (c .index) p = of-functions asks f ts .so-chosen (chosen (c .index) p) (d .best) in
-    let ranked = preferred-is-wgsl f asks ts w (c .index) p choice in
-    let strict = ties f asks ts w (c .index) p choice in
+    let ranked = preferred-is-wgsl f asks ts w (c .index) p (d .best) in
+    let strict = ties f asks ts w (c .index) p (d .best) in
     let taken : (i : ℕ) (q : Signature) → Survivor f m i q → Taken asks (listingOf f) ts =
     λ i q s. record { index = i; rule = q; there = s .there; takes = survive .exactly i q (s .there) .0 (s .survives) } in
     record {

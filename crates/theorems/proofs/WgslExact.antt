@@ -190,7 +190,7 @@ module _ (r : Regular) (arguments : 0 < r .arity) (k : ℕ) (k-in : among (const
         let g : Reaches (typeCode k x) a = subst (λ (t : ℕ). Reaches t a) (operand 0 (omega arith)) (reached r switch ts a h 0 (omega arith)) in
         let o : (k * 12 + x) / 12 ≡ a / 12 = g .constructor in
         let row : (k * 12 + x) % 12 ≡ x = omega arith in
-        let pr = ranked switch ts ours (y .0) p (y .2) in
+        let pr = ranked switch ts ours (y .0) p b in
         let over : overWgsl (signatureFor r a .arguments) ≡ true = subst (λ (q : Signature). overWgsl (q .arguments) ≡ true) (f .is) (pr .over) in
         let wa : wgsl? a ≡ true = a-copy wgsl? (r .arity) a over arguments in
         record {

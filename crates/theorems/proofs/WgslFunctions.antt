@@ -22,15 +22,13 @@ use Rattle.functions.specs.ListedRules.{listedRules}
 use Rattle.functions.specs.Functions.{functionCount, functionSets, functionSetOf, rulesIn, listingOf}
 use Rattle.functions.specs.declared.mathfunction.FunctionSet.{FunctionSet}
 use Rattle.functions.specs.declared.mathfunction.FunctionSet.the-variants as set
-use Rattle.functions.proofs.Database.{each-number, one-length, unknown-none, every-element, sameCodes}
+use Rattle.functions.proofs.Database.{each-number, unknown-none, every-element, sameCodes}
 use Rattle.scalars.proofs.Filters.{both-left, both-right, both-true}
 use Rattle.scalars.proofs.Table.{at, same→eq}
-use Rattle.theorems.specs.Taking.{OneLength}
 use Rattle.theorems.specs.Wgsl.{conversions, scalarRank, Ranked}
 use Rattle.theorems.specs.WgslLists.{implies, ordered?}
 use Rattle.theorems.specs.WgslRegulars.{fair?}
 use Rattle.theorems.specs.WgslCalls.{Theorem, Ties, MixTwice, mix}
-use Rattle.theorems.proofs.Demand2.{of-functions}
 use Rattle.theorems.proofs.WgslArguments.{then}
 use Rattle.theorems.proofs.WgslLists.{ordered-ranked}
 use Rattle.theorems.proofs.WgslRegulars.{fair-ranked}
@@ -41,10 +39,9 @@ abbrev wgslSet? : FunctionSet → Bool
 wgslSet? (set.Regular r) = fair? r
 wgslSet? (set.List l) = ordered? (listedRules l)
 
--- a set that passes, of rules of one length
-set-ranked : (s : FunctionSet) → OneLength (rulesIn s) → wgslSet? s ≡ true → Ranked (rulesIn s)
-set-ranked (set.Regular r) one e = fair-ranked r e
-set-ranked (set.List l) one e = ordered-ranked (listedRules l) one e
+set-ranked : (s : FunctionSet) → wgslSet? s ≡ true → Ranked (rulesIn s)
+set-ranked (set.Regular r) e = fair-ranked r e
+set-ranked (set.List l) e = ordered-ranked (listedRules l) e
 
 -- That ExtractBits and InsertBits are in order rests on `concreteIntScalars`, whose order is read from the crate's listing: I32 stands before U32
 -- there, and each before the scalars that WGSL lacks. specs/WgslHandMade.antt has what the other order would do.
@@ -53,8 +50,8 @@ unfolding fair? ordered? scalarRank conversions converts isAbstract functionSets
 every-set f = each-number wgslSet? refl refl f
 
 pub preferred-is-wgsl : Theorem
-unfolding OneLength listingOf
-preferred-is-wgsl f = set-ranked (functionSetOf f) (one-length f) (every-set f)
+unfolding listingOf
+preferred-is-wgsl f = set-ranked (functionSetOf f) (every-set f)
 
 -- ---- ties
 
@@ -138,9 +135,8 @@ module _ (f i j : ℕ) (p q : Signature) (h : getElem? (listingOf f) i ≡ some 
 
 pub ties : Ties
 unfolding Ranked
-ties f switch ts w i p c =
-    let b = of-functions switch f ts .chosen-so _ c in
-    let r = preferred-is-wgsl f switch ts w i p c in
+ties f switch ts w i p b =
+    let r = preferred-is-wgsl f switch ts w i p b in
     record {
       same = λ q v. ⊎-elim (λ e. inl (same-rule f i (q .index) p (q .rule) (b .there) (q .there) e)) inr (r .best q v);
       once = λ n q v. ⊎-elim (λ e. inl (same-place f i (q .index) p (q .rule) (b .there) (q .there) e n)) inr (r .best q v);

@@ -1,5 +1,5 @@
--- Of a listing whose rules have one length and which passes the test of specs/WgslLists.antt, every call over WGSL's scalars chooses by
--- rank: the first rule that takes the operands ranks at most as high as each other that does. Assumes nothing.
+-- A listing that passes the test of specs/WgslLists.antt chooses by rank, for operands over WGSL's scalars: the first rule that takes them ranks
+-- at most as high as each other that does. Assumes nothing.
 use mathlib.Core.Path.{_≡_, refl, sym, subst}
 use mathlib.Core.Bool.{Bool, true, true≢false}
 use mathlib.Core.List.{List, [], _∷_}
@@ -11,13 +11,11 @@ use lib.ListN.{getElem?}
 use Rattle.scalars.specs.Mask.{every}
 use Rattle.types.proofs.Conversions.{yes-either}
 use Rattle.rules.specs.Signature.{Signature}
-use Rattle.calls.specs.Choice.{chosen}
 use Rattle.scalars.proofs.Filters.{both-left, both-right, both-true}
 use Rattle.functions.proofs.Database.{every-element}
-use Rattle.theorems.specs.Taking.{Takes, NoRule, Best, OneLength}
+use Rattle.theorems.specs.Taking.{Takes, NoRule, Best}
 use Rattle.theorems.specs.Wgsl.{any, overWgsl, AtMost, Outranks, Ranked}
 use Rattle.theorems.specs.WgslLists.{apart, most, coverAll, covers, pair?, row?, rows?, ordered?, ListLaw}
-use Rattle.theorems.proofs.Demand2.{exactly}
 use Rattle.theorems.proofs.WgslArguments.{then, reached, reached-all, reached-length, reached-at, apart-never, most-ranks, cover-reaches, Differ, alike-or-differ}
 
 -- ---- rules of a list
@@ -139,12 +137,11 @@ unfolding NoRule
 no-rules switch ts i r e h = let z : _≡_ {A = ℕ} 0 1 = cc in omega arith
 
 -- the first rule that takes the operands, over WGSL's scalars and at most as high as each other, makes a listing ranked
-pub ranked-first : (rules : List Signature) → OneLength rules
+pub ranked-first : (rules : List Signature)
     → ((switch : Bool) (ts : List ℕ) → overWgsl ts ≡ true → (i : ℕ) (p : Signature) → Best switch rules ts i p → First switch ts rules p)
     → Ranked rules
 unfolding Ranked
-ranked-first rules one firsts switch ts w i p c =
-    let b = exactly switch rules ts one (chosen i p) .0 c in
+ranked-first rules firsts switch ts w i p b =
     let f = firsts switch ts w i p b in
     record {
       over = f .over;
@@ -154,4 +151,4 @@ ranked-first rules one firsts switch ts w i p c =
 
 pub ordered-ranked : ListLaw
 unfolding ordered?
-ordered-ranked rules one e = ranked-first rules one (λ switch ts w. first-ranks switch ts w [] rules e (no-rules switch ts))
+ordered-ranked rules e = ranked-first rules (λ switch ts w. first-ranks switch ts w [] rules e (no-rules switch ts))

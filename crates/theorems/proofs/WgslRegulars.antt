@@ -26,7 +26,6 @@ use Rattle.theorems.specs.Taking.{Takes, Best}
 use Rattle.theorems.specs.Wgsl.{wgslScalars, any, among, wgsl?, overWgsl, conversions, scalarRank, rank, AtMost, Ranked}
 use Rattle.theorems.specs.WgslLists.{implies}
 use Rattle.theorems.specs.WgslRegulars.{scalarsOf, standIns, stoodFor, withInt, fair?}
-use Rattle.theorems.proofs.OneLength.{regular-one}
 use Rattle.theorems.proofs.WgslArguments.{then, never, among-passes, two-pass, three-pass, Reaches, reaches-of, of-reaches, its-scalar}
 use Rattle.theorems.proofs.WgslLists.{First, ranked-first}
 use Rattle.theorems.proofs.WgslTypes.{Ascends, least, yes-right, codes-ascend, known-scalars, scalar-in, other-scalar}
@@ -280,4 +279,4 @@ module _ (r : Regular) where
       }
 
   pub fair-ranked : fair? r ≡ true → Ranked (regularRules r)
-  fair-ranked fair = ranked-first (regularRules r) (regular-one r) (fair-firsts fair)
+  fair-ranked fair = ranked-first (regularRules r) (fair-firsts fair)

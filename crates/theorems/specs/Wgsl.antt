@@ -1,7 +1,8 @@
 -- Document 02's (vi), 'prove that the preferred rule is WGSL's': WGSL's scalars, its conversion ranks in the document's words, and what it
 -- means that a listing's calls choose by them. The rule that a call chooses is over WGSL's scalars, and no surviving rule over them ranks
 -- at most as high for every operand and lower for one. More is said: it outranks every other survivor over them. Survivors and the chosen
--- rule are those that Demand 2 speaks of. Of operands there are only types here: a measured one asks of a call what the switch asks.
+-- rule are those that Demand 2 speaks of: the rules of the listing that take the operands, and the first of them. Of operands there are only
+-- types here: a measured one asks of a call what the switch asks.
 use mathlib.Core.Path.{_≡_}
 use mathlib.Core.Bool.{Bool, true, false}
 use mathlib.Core.List.{List, [], _∷_}
@@ -13,8 +14,7 @@ use Rattle.scalars.specs.Mask.{choose, both, either, every}
 use Rattle.scalars.specs.Domain.{abstractInt, abstractFloat, i32, u32, f32, converts}
 use Rattle.types.specs.Domain.{value?, scalarPart}
 use Rattle.rules.specs.Signature.{Signature}
-use Rattle.calls.specs.Choice.{chosen, resolve}
-use Rattle.theorems.specs.Taking.{Taken}
+use Rattle.theorems.specs.Taking.{Taken, Best}
 
 -- ---- the scalars that WGSL has
 
@@ -105,8 +105,7 @@ pub record ByRank (switch : Bool) (rules : List Signature) (ts : List ℕ) (p : 
   pub best : (q : Taken switch rules ts) → overWgsl (q .rule .arguments) ≡ true
       → (p .arguments ≡ q .rule .arguments) ⊎ Outranks ts p (q .rule)
 
--- and so every rule that a call of this listing chooses, for operands over WGSL's scalars
+-- and so every rule of this listing that is the first to take operands over WGSL's scalars
 unfoldable pub Ranked : List Signature → Type 0
 Ranked rules =
-    (switch : Bool) (ts : List ℕ) → overWgsl ts ≡ true
-    → (i : ℕ) (p : Signature) → resolve switch rules ts ≡ chosen i p → ByRank switch rules ts p
+    (switch : Bool) (ts : List ℕ) → overWgsl ts ≡ true → (i : ℕ) (p : Signature) → Best switch rules ts i p → ByRank switch rules ts p

@@ -16,13 +16,12 @@ use Rattle.rules.specs.Signature.{Signature}
 use Rattle.rules.specs.Rule.{argumentsOf, signatureOf}
 use Rattle.functions.specs.Functions.{listingOf}
 use Rattle.lists.specs.declared.list.Chosen.{Chosen}
-use Rattle.calls.specs.Choice.{chosen, resolve}
 use Rattle.calls.specs.declared.outcome.CallAnswer.{CallAnswer}
 use Rattle.calls.specs.declared.outcome.CallAnswer.the-variants.{Called}
 use Rattle.calls.specs.declared.call.Survivors.the-variants.{Members}
 use Rattle.calls.proofs as single
 use Rattle.theorems.specs.Contracts.{Promises}
-use Rattle.theorems.specs.Taking.{Taken, bit}
+use Rattle.theorems.specs.Taking.{Taken, Best, bit}
 use Rattle.theorems.specs.Wgsl.{overWgsl, Outranks, Ranked}
 
 -- ---- over the listings
@@ -42,7 +41,7 @@ pub record Strict (switch : Bool) (f : ℕ) (ts : List ℕ) (i : ℕ) (p : Signa
 abbrev pub Ties : Type 0
 Ties =
     (f : ℕ) (switch : Bool) (ts : List ℕ) → overWgsl ts ≡ true
-    → (i : ℕ) (p : Signature) → resolve switch (listingOf f) ts ≡ chosen i p → Strict switch f ts i p
+    → (i : ℕ) (p : Signature) → Best switch (listingOf f) ts i p → Strict switch f ts i p
 
 -- there are such: F32's rule in Mix, at 8 and 9
 abbrev pub MixTwice : Type 0

@@ -15,7 +15,6 @@ use Rattle.scalars.specs.Mask.{both, either, every}
 use Rattle.scalars.specs.Domain.{converts}
 use Rattle.types.specs.Domain.{constructorPart, scalarPart}
 use Rattle.rules.specs.Signature.{Signature, concrete}
-use Rattle.theorems.specs.Taking.{OneLength}
 use Rattle.theorems.specs.Wgsl.{wgslScalars, any, overWgsl, scalarRank, Ranked}
 
 abbrev pub implies : Bool → Bool → Bool
@@ -83,6 +82,6 @@ rows? before (p ∷ after) = both (row? before p after) (rows? (p ∷ before) af
 unfoldable pub ordered? : List Signature → Bool
 ordered? rules = rows? [] rules
 
--- enough for any listing whose rules have one length; not needed: of two rules neither may rank at most as high throughout
+-- enough for any listing; not needed: of two rules neither may rank at most as high throughout
 abbrev pub ListLaw : Type 0
-ListLaw = (rules : List Signature) → OneLength rules → ordered? rules ≡ true → Ranked rules
+ListLaw = (rules : List Signature) → ordered? rules ≡ true → Ranked rules
