@@ -116,7 +116,7 @@ abbrev insert : ℕ → Signature
 insert s = record { arguments = s ∷ s ∷ u32 ∷ u32 ∷ []; result = s }
 
 pub writers-order : WritersOrder
-unfolding ordered? listedRules scalarOrVecn vector isAbstract resolve narrow reaches converts scalarRank conversions
+unfolding ordered? listedRules scalarOrVecn vector isAbstract reaches converts scalarRank conversions
 writers-order = record {
   floats = record {
     kept = ordered-ranked _ refl;
