@@ -22,7 +22,8 @@ use Rattle.types.specs.contracts.conversion.Combination as declared
 use Rattle.scalars.proofs.Scalars.{reached}
 use Rattle.scalars.proofs.Table.{at, entry}
 use denote.Enum.Declared.{tag_of}
-use types.Run.{OneOf}
+use Rattle.scalars.specs.declared.scalar_set.Scalar.{Scalar}
+use Rattle.types.specs.declared.conversion.Side.{Side}
 
 -- whether a scalar converts, by its set
 pub converts-told : (a b m : ℕ) {x : Bool} → a < scalar_count → b < scalar_count → m ≡ convertible_from a → member b m ≡ x → converts_to a b ≡ accepted (digit x ∷ [])
@@ -117,8 +118,8 @@ module _ (a b : ℕ) where
       combined_case (λ p. accepted (n ∷ m ∷ []) ≡ p → (combination a b ≡ none → ⊥) × (combination a b ≡ n) × (side a b ≡ m))
       (λ h e. let z : ◌≡◌ {A = ℕ} 0 1 = cc in absurd (omega arith)) (λ h e. (h, cc, cc))
 
-  pub combined-none : (x : Combination) → combination_paper x ≡ combined a b → OneOf (1 ∷ 2 ∷ []) (tag_of declared.the_type x) → combination a b ≡ none
-  combined-none (answer.Scalar s by) e k = ⊎_elim (λ z. absurd (omega arith)) (λ z. absurd (omega arith)) k
+  pub combined-none : (x : Combination) → combination_paper x ≡ combined a b → ((s : Scalar) (by : Side) → x ≡ answer.Scalar s by → ⊥) → combination a b ≡ none
+  combined-none (answer.Scalar s by) e k = absurd (k s by refl)
   combined-none answer.Nothing e k =
       combined_case (λ p. accepted [] ≡ p → combination a b ≡ none) (λ h e. h) (λ h e. let z : ◌≡◌ {A = ℕ} 0 1 = cc in absurd (omega arith)) e
   combined-none (answer.Refused why) e k =

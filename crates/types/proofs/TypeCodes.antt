@@ -17,7 +17,7 @@ use Rattle.types.specs.declared.type_code.LeafScalar.{LeafScalar}
 use Rattle.types.specs.declared.type_code.LeafScalar.TheVariants as leaf
 use Rattle.types.specs.contracts.type_code.LeafScalar as leaf-scalar
 use denote.Enum.Declared.{tag_of}
-use types.Run.{OneOf}
+use Rattle.scalars.specs.declared.scalar_set.Scalar.{Scalar}
 
 -- ---- an answer that is a code
 
@@ -51,8 +51,8 @@ module _ (t : ℕ) where
       no : {C : Type 0} → accepted [] ≡ accepted (s ∷ []) → C
       no e = let z : ◌≡◌ {A = ℕ} 0 1 = cc in absurd (omega arith)
 
-  pub leaf-none : (x : LeafScalar) → leaf_paper x ≡ leaf_scalar t → OneOf (1 ∷ 2 ∷ []) (tag_of leaf-scalar.the_type x) → other_type ≤ t
-  leaf-none (leaf.Scalar s) e k = ⊎_elim (λ z. absurd (omega arith)) (λ z. absurd (omega arith)) k
+  pub leaf-none : (x : LeafScalar) → leaf_paper x ≡ leaf_scalar t → ((s : Scalar) → x ≡ leaf.Scalar s → ⊥) → other_type ≤ t
+  leaf-none (leaf.Scalar s) e k = absurd (k s refl)
   leaf-none leaf.Nothing e k = leaf_case (λ p. accepted [] ≡ p → other_type ≤ t) (λ h e. let z : ◌≡◌ {A = ℕ} 0 1 = cc in absurd (omega arith)) (λ h e. h) (λ h e. h) e
   leaf-none (leaf.Refused why) e k = leaf_case (λ p. leaf_paper (leaf.Refused why) ≡ p → other_type ≤ t) (λ h e. let z : ◌≡◌ {A = ℕ} 0 1 = cc in absurd (omega arith)) (λ h e. h) (λ h e. h) e
 

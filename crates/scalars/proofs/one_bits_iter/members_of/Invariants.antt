@@ -1,0 +1,24 @@
+-- `members_of` meets its contract. The loop's invariant: the numbers found so far, followed by those of the bits that are left, are
+-- the whole list. Assumes nothing.
+use mathlib.Core.Path.{◌≡◌, refl, ap, ap₂}
+use mathlib.Core.List.{List, [], ◌∷◌}
+use Prim.Native.Nat.{ℕ, ◌+◌, ◌^◌, ◌<◌}
+use native.Mathlib.Nat.{zero-add}
+use native.Mathlib.Omega.{arith}
+use lib.Dec.{lit≤}
+use lib.ListN.{length, length-set}
+use lib.Seq.{sets}
+use borrow.Author.Rules.{rules}
+use Rattle.scalars.specs.Mask.{bits, padded}
+use Rattle.scalars.specs.OneBits.{listed}
+use Rattle.scalars.specs.Paper.{accepted, unused}
+use Rattle.scalars.proofs.Bits.{bits-length}
+use Rattle.scalars.proofs.Walks.{WalkedBits, walked-bits, ended-bits}
+use Rattle.scalars.proofs.Fills.{filled, fill_step, fill_end}
+use Rattle.scalars.proofs.one_bits_iter.members_of.Given as goal
+
+abbrev pub invariant-loop-numbers : goal.invariant-loop-numbers
+invariant-loop-numbers l = (l.walk.0 < 2 ^ 16) × (l.count + length (bits 16 l.walk.0) ≡ length (bits 16 l.mask)) × (length l.numbers ≡ 16) × (sets l.numbers l.count (bits 16 l.walk.0) ≡ padded 16 unused (bits 16 l.mask))
+
+abbrev pub decreases-loop-numbers : goal.decreases-loop-numbers
+decreases-loop-numbers l = l.walk.0
