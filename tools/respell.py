@@ -131,7 +131,8 @@ def table():
 
 
 def turn(text, rows):
-    return re.sub(WORD, lambda m: rows.get(m.group(0), m.group(0)), text)
+    # What stands in quotes is a string of the program, or the text of one, and keeps its spelling.
+    return re.sub(r'"[^"\n]*"|' + WORD, lambda m: rows.get(m.group(0), m.group(0)), text)
 
 
 def ghost_only(text, rows):

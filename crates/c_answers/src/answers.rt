@@ -15,7 +15,7 @@ pub const STOPPED: u8 = 255;
 
 // A chosen rule, with its index.
 #[repr(C)]
-#[derive(Drop)]
+#[derive(Clone, Copy)]
 pub struct ChosenForC {
     pub number: u8,
     pub index: u8,
@@ -34,7 +34,7 @@ pub struct ChosenForC {
 
 // A rule.
 #[repr(C)]
-#[derive(Drop)]
+#[derive(Clone, Copy)]
 pub struct RuleForC {
     pub number: u8,
     pub a0: u8,
@@ -48,7 +48,7 @@ pub struct RuleForC {
 
 // A Regular set: the masks of its constructors and scalars, and its conclusion by number.
 #[repr(C)]
-#[derive(Drop)]
+#[derive(Clone, Copy)]
 pub struct RegularForC {
     pub number: u8,
     pub arity: u8,
@@ -60,7 +60,7 @@ pub struct RegularForC {
 
 // The scalar of a consensus, and who gave it.
 #[repr(C)]
-#[derive(Drop)]
+#[derive(Clone, Copy)]
 pub struct ConsensusForC {
     pub number: u8,
     pub scalar: u8,
@@ -73,7 +73,7 @@ pub struct ConsensusForC {
 
 // The type of an expression, and its worksheet's length.
 #[repr(C)]
-#[derive(Drop)]
+#[derive(Clone, Copy)]
 pub struct TypeForC {
     pub number: u8,
     pub code: u8,
@@ -86,7 +86,7 @@ pub struct TypeForC {
 
 // An expression's bytes or its text, which stand in lent bytes.
 #[repr(C)]
-#[derive(Drop)]
+#[derive(Clone, Copy)]
 pub struct TextForC {
     pub number: u8,
     // How many bytes were put there.
@@ -96,7 +96,7 @@ pub struct TextForC {
 
 // How a worksheet ran: number 0 for an end, 255 for a stop, whose line is the place.
 #[repr(C)]
-#[derive(Drop)]
+#[derive(Clone, Copy)]
 pub struct RunForC {
     pub number: u8,
     // The type of the topmost operand.
@@ -110,7 +110,7 @@ pub struct RunForC {
 
 // The answer to a question whose value is a mask, which stands in lent bytes.
 #[repr(C)]
-#[derive(Drop)]
+#[derive(Clone, Copy)]
 pub struct MaskForC {
     pub number: u8,
     pub place: usize,

@@ -28,14 +28,14 @@ use scalars::{BitNumber, BitStep, CountAnswer, OneBitsIter, Refusal, Scalar, Sca
 use types::Constructor;
 
 // The rules that a call leaves: bit k says that rule k of the function's full listing is one.
-#[derive(Drop)]
+#[derive(Clone, Copy)]
 pub enum Survivors {
     Members(u64),
     Refused(Refusal),
 }
 
 // What the steps of a call leave of a List.
-#[derive(Drop)]
+#[derive(Clone, Copy)]
 pub(crate) enum Steps {
     // The number of operands is not the longest rule's.
     WrongCount,

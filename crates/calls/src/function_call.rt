@@ -20,7 +20,7 @@ use scalars::Refusal;
 use types::{LAST_CODE, MEASURED, Operand, concrete_only};
 
 // What the tests before a call find.
-#[derive(Drop)]
+#[derive(Clone, Copy)]
 pub(crate) enum Found {
     // All is in order; whether an operand is measured.
     InOrder(bool),

@@ -13,7 +13,7 @@ use lists::Chosen;
 use rules::Part;
 use scalars::Refusal;
 
-#[derive(Drop)]
+#[derive(Clone, Copy)]
 pub enum Outcome {
     // The chosen rule, with its index in the function's full listing.
     Rule(Chosen),
@@ -26,7 +26,7 @@ pub enum Outcome {
 }
 
 // The answer to a call by itself.
-#[derive(Drop)]
+#[derive(Clone, Copy)]
 pub enum CallAnswer {
     // The chosen rule, and whether its result is measured.
     Called(Chosen, bool),

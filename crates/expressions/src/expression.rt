@@ -30,7 +30,7 @@ pub const CALL: u8 = 1;
 pub const MEASURED_LEAF: u8 = 2;
 
 // What the first pass answers.
-#[derive(Drop)]
+#[derive(Clone, Copy)]
 pub enum Read {
     // An expression within the limits, of so many nodes.
     Accepted(usize),
@@ -39,7 +39,7 @@ pub enum Read {
 }
 
 // Where a reading got to, or the first fault.
-#[derive(Drop)]
+#[derive(Clone, Copy)]
 enum Step {
     // The offset behind what was read, and the nodes passed since the expression's front.
     Past(usize, usize),

@@ -18,7 +18,7 @@ use scalars::{Scalar, UNUSED};
 const RATIOS: u8 = 2;
 
 // The functions that have a List.
-#[derive(Drop)]
+#[derive(Clone, Copy)]
 pub enum ListFunction {
     Ldexp,
     Outer,

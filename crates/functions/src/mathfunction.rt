@@ -27,7 +27,7 @@ const SQUARE: ConstructorSet = ConstructorSet(
 );
 
 // A function's overload set: a Regular one, or the List of one of the functions that have one.
-#[derive(Drop)]
+#[derive(Clone, Copy)]
 pub enum FunctionSet {
     Regular(Regular),
     List(ListFunction),

@@ -26,7 +26,7 @@ pub(crate) const SIZES: u8 = 3;
 pub(crate) const SHAPES: u8 = 4;
 
 // The number of a vector's components, or of a matrix's columns or rows.
-#[derive(Drop)]
+#[derive(Clone, Copy)]
 pub(crate) struct VectorSize(u8);
 
 impl VectorSize {

@@ -12,7 +12,7 @@ use scalars::{Refusal, Verdict};
 const WORD_BYTES: usize = 8;
 
 // The answer where a mask is asked for.
-#[derive(Drop)]
+#[derive(Clone, Copy)]
 pub enum MaskAnswer {
     Mask(u64),
     Refused(Refusal),

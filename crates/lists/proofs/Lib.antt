@@ -2,7 +2,7 @@
 pub mod Entries
 pub mod Lists
 pub mod Steps
-pub mod BothSteps
+pub mod StepsTogether
 pub mod Cleans
 pub mod Verdicts
 pub mod TypesAt

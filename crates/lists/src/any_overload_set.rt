@@ -17,7 +17,7 @@ use regular::{Regular, RegularAnswer};
 use rules::{AllowedArgs, Listing, Part, Rule, RuleAnswer};
 use scalars::{CountAnswer, Test, Verdict};
 
-#[derive(Drop)]
+#[derive(Clone, Copy)]
 pub struct AnyOverloadSet {
     pub kind: SetKind,
     // A List's rules; not in use for a Regular set.
@@ -25,14 +25,14 @@ pub struct AnyOverloadSet {
 }
 
 // Which kind of set it is: a Regular one, or a List with its length and members.
-#[derive(Drop)]
+#[derive(Clone, Copy)]
 pub enum SetKind {
     Regular(Regular),
     List(usize, u64),
 }
 
 // The answer where a set is asked for: the set beside the verdict, empty where it is refused.
-#[derive(Drop)]
+#[derive(Clone, Copy)]
 pub struct AnyAnswer {
     pub answer: Verdict,
     pub set: AnyOverloadSet,

@@ -20,7 +20,7 @@ use types::LAST_CODE;
 // The most rules of a List.
 pub const MOST_RULES: usize = 63;
 
-#[derive(Drop)]
+#[derive(Clone, Copy)]
 pub struct List {
     // The rules, each more preferred than all that follow it.
     pub rules: [Rule; MOST_RULES],
@@ -31,21 +31,21 @@ pub struct List {
 }
 
 // The answer where a List is asked for: the List beside the verdict, which is the List of no rules where it is refused.
-#[derive(Drop)]
+#[derive(Clone, Copy)]
 pub struct ListAnswer {
     pub answer: Verdict,
     pub list: List,
 }
 
 // A rule with its index: among its List's rules, or in a function's full listing.
-#[derive(Drop)]
+#[derive(Clone, Copy)]
 pub struct Chosen {
     pub index: u8,
     pub rule: Rule,
 }
 
 // The answer where a rule is chosen: by a List, or by a call.
-#[derive(Drop)]
+#[derive(Clone, Copy)]
 pub enum ChosenAnswer {
     Rule(Chosen),
     Refused(Refusal),

@@ -20,7 +20,7 @@ use rules::{AllowedArgs, Keep, Listing, Part, no_codes, no_rules, no_types};
 use scalars::{BitStep, CountAnswer, OneBitsIter, Refusal};
 
 // A set of a List's rules: bit k stands for the rule at the index k.
-#[derive(Drop)]
+#[derive(Clone, Copy)]
 pub struct RuleSet(pub u64);
 
 // Those of the rules that pass a test: one walk for every step. A bit that has no rule passes none.
@@ -48,7 +48,7 @@ pub fn filter(list: List, rules: RuleSet, keep: Keep) -> RuleSet
 }
 
 // What the two steps of an operand leave: by its shape, and of those by its number.
-#[derive(Drop)]
+#[derive(Clone, Copy)]
 pub struct BothSteps {
     pub shaped: RuleSet,
     pub left: RuleSet,

@@ -35,7 +35,7 @@ const NO_OPERAND: Operand = Operand {
 };
 
 // How a run goes out.
-#[derive(Drop)]
+#[derive(Clone, Copy)]
 pub enum Run {
     // With so many operands on the stack, and the type and the mark of the topmost, 255 where there is none.
     Ended { operands: usize, top: u8, mark: u8 },
@@ -44,14 +44,14 @@ pub enum Run {
 }
 
 // The operands, the topmost last; those from `top` on are not on the stack.
-#[derive(Drop)]
+#[derive(Clone, Copy)]
 struct Stack {
     operands: [Operand; MOST_OPERANDS],
     top: usize,
 }
 
 // Whether a line, or part of one, was done, and the stack afterwards.
-#[derive(Drop)]
+#[derive(Clone, Copy)]
 struct Stepped {
     done: bool,
     stack: Stack,

@@ -19,15 +19,15 @@ function_names =
     bytes "abs" ∷ bytes "sign" ∷ bytes "min" ∷ bytes "max" ∷ bytes "clamp" ∷ bytes "sin" ∷ bytes "cos" ∷ bytes "tan" ∷ bytes "asin" ∷
     bytes "acos" ∷ bytes "atan" ∷ bytes "sinh" ∷ bytes "cosh" ∷ bytes "tanh" ∷ bytes "asinh" ∷ bytes "acosh" ∷ bytes "atanh" ∷
     bytes "saturate" ∷ bytes "radians" ∷ bytes "degrees" ∷ bytes "ceil" ∷ bytes "floor" ∷ bytes "round" ∷ bytes "fract" ∷ bytes "trunc" ∷
-    bytes "exp" ∷ bytes "exp2" ∷ bytes "log" ∷ bytes "log2" ∷ bytes "sqrt" ∷ bytes "inverse_sqrt" ∷ bytes "atan2" ∷ bytes "pow" ∷
-    bytes "step" ∷ bytes "fma" ∷ bytes "smooth_step" ∷ bytes "count_trailing_zeros" ∷ bytes "count_leading_zeros" ∷ bytes "count_one_bits" ∷
-    bytes "reverse_bits" ∷ bytes "first_trailing_bit" ∷ bytes "first_leading_bit" ∷ bytes "pack4x8snorm" ∷ bytes "pack4x8unorm" ∷
-    bytes "pack2x16snorm" ∷ bytes "pack2x16unorm" ∷ bytes "pack2x16float" ∷ bytes "pack4x_i8" ∷ bytes "pack4x_u8" ∷ bytes "pack4x_i8_clamp" ∷
-    bytes "pack4x_u8_clamp" ∷ bytes "unpack4x8snorm" ∷ bytes "unpack4x8unorm" ∷ bytes "unpack2x16snorm" ∷ bytes "unpack2x16unorm" ∷
-    bytes "unpack2x16float" ∷ bytes "unpack4x_i8" ∷ bytes "unpack4x_u8" ∷ bytes "dot4_i8_packed" ∷ bytes "dot4_u8_packed" ∷ bytes "dot" ∷
+    bytes "exp" ∷ bytes "exp2" ∷ bytes "log" ∷ bytes "log2" ∷ bytes "sqrt" ∷ bytes "inverseSqrt" ∷ bytes "atan2" ∷ bytes "pow" ∷
+    bytes "step" ∷ bytes "fma" ∷ bytes "smoothStep" ∷ bytes "countTrailingZeros" ∷ bytes "countLeadingZeros" ∷ bytes "countOneBits" ∷
+    bytes "reverseBits" ∷ bytes "firstTrailingBit" ∷ bytes "firstLeadingBit" ∷ bytes "pack4x8snorm" ∷ bytes "pack4x8unorm" ∷
+    bytes "pack2x16snorm" ∷ bytes "pack2x16unorm" ∷ bytes "pack2x16float" ∷ bytes "pack4xI8" ∷ bytes "pack4xU8" ∷ bytes "pack4xI8Clamp" ∷
+    bytes "pack4xU8Clamp" ∷ bytes "unpack4x8snorm" ∷ bytes "unpack4x8unorm" ∷ bytes "unpack2x16snorm" ∷ bytes "unpack2x16unorm" ∷
+    bytes "unpack2x16float" ∷ bytes "unpack4xI8" ∷ bytes "unpack4xU8" ∷ bytes "dot4I8Packed" ∷ bytes "dot4U8Packed" ∷ bytes "dot" ∷
     bytes "modf" ∷ bytes "frexp" ∷ bytes "ldexp" ∷ bytes "outer" ∷ bytes "cross" ∷ bytes "distance" ∷ bytes "length" ∷ bytes "normalize" ∷
-    bytes "face_forward" ∷ bytes "reflect" ∷ bytes "refract" ∷ bytes "mix" ∷ bytes "inverse" ∷ bytes "transpose" ∷ bytes "determinant" ∷
-    bytes "quantize_to_f16" ∷ bytes "extract_bits" ∷ bytes "insert_bits" ∷ []
+    bytes "faceForward" ∷ bytes "reflect" ∷ bytes "refract" ∷ bytes "mix" ∷ bytes "inverse" ∷ bytes "transpose" ∷ bytes "determinant" ∷
+    bytes "quantizeToF16" ∷ bytes "extractBits" ∷ bytes "insertBits" ∷ []
 
 -- the twelve scalars, by number
 unfoldable pub scalar_names : List (List ℕ)

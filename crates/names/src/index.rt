@@ -11,7 +11,7 @@ ghost use Rattle.names.specs.WordPaper.{word_paper};
 use crate::names::{TYPE_COUNT, WORD_COUNT, spelling};
 
 // What a run names.
-#[derive(Drop)]
+#[derive(Clone, Copy)]
 pub enum Word {
     // A type, by its code.
     TypeName(u8),

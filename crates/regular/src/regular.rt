@@ -28,7 +28,7 @@ use types::{
     leaf_scalar,
 };
 
-#[derive(Drop)]
+#[derive(Clone, Copy)]
 pub struct Regular {
     // The number of arguments in the rules.
     pub arity: u8,
@@ -41,7 +41,7 @@ pub struct Regular {
 }
 
 // How a rule's result follows from its argument type.
-#[derive(Drop)]
+#[derive(Clone, Copy)]
 pub enum ConclusionRule {
     ArgumentType,
     Scalar,
@@ -56,7 +56,7 @@ pub enum ConclusionRule {
 }
 
 // The answer where a Regular set is asked for.
-#[derive(Drop)]
+#[derive(Clone, Copy)]
 pub enum RegularAnswer {
     Set(Regular),
     Refused(Refusal),
@@ -348,7 +348,7 @@ impl Regular {
 }
 
 // Argument types, and how many of them there are.
-#[derive(Drop)]
+#[derive(Clone, Copy)]
 struct Codes {
     codes: [u8; LONGEST_LISTING],
     count: usize,

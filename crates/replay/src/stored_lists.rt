@@ -5,7 +5,7 @@ use crate::{
     named_sets, refused, texts, typings,
 };
 
-#[derive(Drop)]
+#[derive(Clone, Copy)]
 pub enum StoredList {
     Combine,
     Convertible,

@@ -2,7 +2,7 @@
 
 use std::num::wrapping_add_u64;
 
-#[derive(Drop)]
+#[derive(Clone, Copy)]
 pub struct Tally {
     compared: u64,
     differ: u64,

@@ -15,14 +15,14 @@ use types::VALUES;
 pub const LONGEST_LISTING: usize = VALUES as usize;
 
 // How many rules there are, or the refusal; beside it the rules, in order.
-#[derive(Drop)]
+#[derive(Clone, Copy)]
 pub struct Listing {
     pub answer: CountAnswer,
     pub rules: [Rule; LONGEST_LISTING],
 }
 
 // How many types there are, or the refusal; beside it the type codes, in the order of their rules.
-#[derive(Drop)]
+#[derive(Clone, Copy)]
 pub struct AllowedArgs {
     pub answer: CountAnswer,
     pub codes: [u8; LONGEST_LISTING],

@@ -21,7 +21,7 @@ use types::{
 // The most arguments of a rule.
 pub const MOST_ARGUMENTS: u8 = 4;
 
-#[derive(Drop)]
+#[derive(Clone, Copy)]
 pub struct Rule {
     pub a0: u8,
     pub a1: u8,
@@ -32,14 +32,14 @@ pub struct Rule {
 }
 
 // The answer where one rule is asked for.
-#[derive(Drop)]
+#[derive(Clone, Copy)]
 pub enum RuleAnswer {
     Rule(Rule),
     Refused(Refusal),
 }
 
 // The part of an operand's type that an argument step asks about.
-#[derive(Drop)]
+#[derive(Clone, Copy)]
 pub enum Part {
     // The constructor, which must be the argument's.
     Shape,
@@ -48,14 +48,14 @@ pub enum Part {
 }
 
 // What a step keeps of a set: the rules whose argument at an index fits a part of a type, or those without an abstract argument.
-#[derive(Drop)]
+#[derive(Clone, Copy)]
 pub enum Keep {
     Argument(Part, usize, u8),
     Concrete,
 }
 
 // The two functions whose results have types of their own.
-#[derive(Drop)]
+#[derive(Clone, Copy)]
 pub enum Predeclared {
     Frexp,
     Modf,

@@ -7,14 +7,14 @@ use crate::refusal::Refusal;
 pub const UNUSED: u8 = 255;
 
 // Whether an input is accepted; the value stands beside it.
-#[derive(Drop)]
+#[derive(Clone, Copy)]
 pub enum Verdict {
     Accepted,
     Refused(Refusal),
 }
 
 // The answer to a question.
-#[derive(Drop)]
+#[derive(Clone, Copy)]
 pub enum Test {
     Yes,
     No,
@@ -22,7 +22,7 @@ pub enum Test {
 }
 
 // The answer where a count is asked for.
-#[derive(Drop)]
+#[derive(Clone, Copy)]
 pub enum CountAnswer {
     Count(u8),
     Refused(Refusal),

@@ -12,26 +12,26 @@ use crate::answer::{CountAnswer, UNUSED};
 use crate::refusal::Refusal;
 
 // The bits that are still to come.
-#[derive(Drop)]
+#[derive(Clone, Copy)]
 pub struct OneBitsIter(pub u64);
 
 // The mask of one bit.
-#[derive(Drop)]
+#[derive(Clone, Copy)]
 pub struct OneBit(pub u64);
 
 // The number of a bit, 0 to 63.
-#[derive(Drop)]
+#[derive(Clone, Copy)]
 pub struct BitNumber(pub u8);
 
 // One step of the walk: the lowest bit's mask and the bits after it, or the end.
-#[derive(Drop)]
+#[derive(Clone, Copy)]
 pub enum BitStep {
     Bit(OneBit, OneBitsIter),
     Done,
 }
 
 // The members of a set of at most 16: how many, and beside that their numbers, lowest first; entries not in use hold `UNUSED`.
-#[derive(Drop)]
+#[derive(Clone, Copy)]
 pub struct Members {
     pub answer: CountAnswer,
     pub numbers: [u8; 16],

@@ -6,7 +6,7 @@
 ghost use Rattle.std.specs.Prelude.{◌≡◌};
 ghost use Rattle.scalars.specs.Refusal.{numbered};
 
-#[derive(Drop)]
+#[derive(Clone, Copy)]
 pub enum Refusal {
     // 1: a count, a preferred rule, a preferred scalar or a size is asked of an empty set.
     EmptySet(usize),

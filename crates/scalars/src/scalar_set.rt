@@ -14,22 +14,22 @@ use crate::one_bits_iter::{Members, members_of, no_members};
 use crate::refusal::Refusal;
 
 // A set of scalars: bit k stands for the scalar numbered k.
-#[derive(Drop)]
+#[derive(Clone, Copy)]
 pub struct ScalarSet(pub u16);
 
 // A scalar by its number, 0 to 11.
-#[derive(Drop)]
+#[derive(Clone, Copy)]
 pub struct Scalar(pub u8);
 
 // The answer where one scalar is asked for.
-#[derive(Drop)]
+#[derive(Clone, Copy)]
 pub enum ScalarAnswer {
     Scalar(Scalar),
     Refused(Refusal),
 }
 
 // The sets that `scalar_set.rs` names.
-#[derive(Drop)]
+#[derive(Clone, Copy)]
 pub struct NamedSets {
     pub float: ScalarSet,
     pub integer: ScalarSet,

@@ -8,7 +8,7 @@ ghost use Rattle.text.specs.Lent.{made_answer};
 use lending::lend_bytes;
 use scalars::{Refusal, Verdict};
 
-#[derive(Drop)]
+#[derive(Clone, Copy)]
 pub enum TextAnswer {
     // So many bytes stand in front of the lent buffer.
     Made(usize),

@@ -15,7 +15,7 @@ use names::{Word, is_measured, word_of};
 use scalars::Refusal;
 
 // How far a reading got. A token that does not belong where it stands is refused there, and so is the text's end, where a token is missing.
-#[derive(Drop)]
+#[derive(Clone, Copy)]
 pub(crate) enum Step {
     // The offset behind what was read, the nodes passed and the bytes written since the text's front, and how many nodes were read side by
     // side: one, or of arguments their number.

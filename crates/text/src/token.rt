@@ -12,7 +12,7 @@ pub(crate) const CLOSE: u8 = b')';
 pub(crate) const COMMA: u8 = b',';
 
 // A token by its offset; a run also by the offset behind it.
-#[derive(Drop)]
+#[derive(Clone, Copy)]
 pub enum Token {
     Open(usize),
     Close(usize),

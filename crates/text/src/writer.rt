@@ -16,7 +16,7 @@ use names::{TYPE_COUNT, measured_name, spelling};
 pub(crate) const ENOUGH_BYTES: usize = 33 * MOST_NODES;
 
 // How far the writing got: the offset behind what was written, and the text's length so far.
-#[derive(Drop)]
+#[derive(Clone, Copy)]
 pub(crate) struct Turn {
     pub(crate) at: usize,
     pub(crate) made: usize,

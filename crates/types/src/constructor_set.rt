@@ -15,15 +15,15 @@ use crate::type_code::{CodeAnswer, VALUES, value_code};
 use scalars::{Members, OneBit, Refusal, Scalar, members_of, no_members};
 
 // A set of constructors: bit k stands for the constructor numbered k.
-#[derive(Drop)]
+#[derive(Clone, Copy)]
 pub struct ConstructorSet(pub u16);
 
 // A constructor by its number, 0 to 12.
-#[derive(Drop)]
+#[derive(Clone, Copy)]
 pub struct Constructor(pub u8);
 
 // The size of a constructor: a vector's number of components, a matrix's columns and rows.
-#[derive(Drop)]
+#[derive(Clone, Copy)]
 pub enum ConstructorSize {
     Scalar,
     Vector(u8),
@@ -31,14 +31,14 @@ pub enum ConstructorSize {
 }
 
 // The answer where one size is asked for.
-#[derive(Drop)]
+#[derive(Clone, Copy)]
 pub enum SizeAnswer {
     Size(ConstructorSize),
     Refused(Refusal),
 }
 
 // The answer where one constructor is asked for.
-#[derive(Drop)]
+#[derive(Clone, Copy)]
 pub enum ConstructorAnswer {
     Constructor(Constructor),
     Refused(Refusal),

@@ -16,14 +16,14 @@ use crate::type_code::{LeafScalar, first_unknown, leaf_scalar};
 use scalars::{Refusal, Scalar, ScalarSet, Test};
 
 // Which of two scalars gave their combination: the left one, if they are equal.
-#[derive(Drop)]
+#[derive(Clone, Copy)]
 pub enum Side {
     Left,
     Right,
 }
 
 // What two scalars combine to, and which of them gave it.
-#[derive(Drop)]
+#[derive(Clone, Copy)]
 pub enum Combination {
     Scalar(Scalar, Side),
     Nothing,
@@ -31,21 +31,21 @@ pub enum Combination {
 }
 
 // The scalar that a consensus must also be compatible with, or none.
-#[derive(Drop)]
+#[derive(Clone, Copy)]
 pub enum Base {
     Scalar(Scalar),
     Nothing,
 }
 
 // Who gave the scalar of a consensus: the base, if it already was the base's, or the first component whose scalar it is, by its index.
-#[derive(Drop)]
+#[derive(Clone, Copy)]
 pub enum Giver {
     Base,
     Component(usize),
 }
 
 // The answer where a consensus is asked for.
-#[derive(Drop)]
+#[derive(Clone, Copy)]
 pub enum ConsensusAnswer {
     Scalar(Scalar, Giver),
     Refused(Refusal),

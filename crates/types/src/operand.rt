@@ -14,7 +14,7 @@ pub const CONSTANT: u8 = 0;
 // The mark of a measured operand.
 pub const MEASURED: u8 = 1;
 
-#[derive(Drop)]
+#[derive(Clone, Copy)]
 pub struct Operand {
     pub code: u8,
     pub measured: bool,

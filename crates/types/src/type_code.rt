@@ -28,7 +28,7 @@ const LAST_FLOAT: u8 = Scalar::F64.0;
 const FLOATS: u8 = LAST_FLOAT - FIRST_FLOAT + 1;
 
 // What a type code stands for.
-#[derive(Drop)]
+#[derive(Clone, Copy)]
 pub enum TypeParts {
     Value(Constructor, Scalar),
     Other,
@@ -37,14 +37,14 @@ pub enum TypeParts {
 }
 
 // The answer where a type code is asked for.
-#[derive(Drop)]
+#[derive(Clone, Copy)]
 pub enum CodeAnswer {
     Code(u8),
     Refused(Refusal),
 }
 
 // The answer where the scalar of a type is asked for.
-#[derive(Drop)]
+#[derive(Clone, Copy)]
 pub enum LeafScalar {
     Scalar(Scalar),
     Nothing,

@@ -7,7 +7,7 @@ use crate::stack::Stack;
 use scalars::{Refusal, Verdict};
 
 // What the second pass has found so far, the offset behind what was typed, the operands and the lines.
-#[derive(Drop)]
+#[derive(Clone, Copy)]
 pub(crate) struct Progress {
     pub(crate) verdict: Verdict,
     pub(crate) at: usize,

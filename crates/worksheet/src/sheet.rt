@@ -10,7 +10,7 @@ ghost use Rattle.worksheet.specs.private.Sheet.{enough_bytes, Wrote};
 pub const ENOUGH_BYTES: usize = 508;
 
 // The bytes written so far are the first `len`.
-#[derive(Drop)]
+#[derive(Clone, Copy)]
 pub(crate) struct Sheet {
     pub(crate) bytes: [u8; ENOUGH_BYTES],
     pub(crate) len: usize,

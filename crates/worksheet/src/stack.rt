@@ -9,7 +9,7 @@ use expressions::MOST_NODES;
 use types::{CONSTANT, Operand};
 
 // The operands are the first `top`, the last of them on top.
-#[derive(Drop)]
+#[derive(Clone, Copy)]
 pub(crate) struct Stack {
     pub(crate) types: [u8; MOST_NODES],
     pub(crate) marks: [u8; MOST_NODES],

@@ -22,7 +22,7 @@ use scalars::{Refusal, Verdict};
 use types::Operand;
 
 // The answer to an expression.
-#[derive(Drop)]
+#[derive(Clone, Copy)]
 pub enum TypeAnswer {
     // Accepted: the operand that it makes, and how many bytes the worksheet takes, which stands in front of the lent buffer.
     Typed { result: Operand, len: usize },

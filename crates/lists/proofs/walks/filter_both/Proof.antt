@@ -15,7 +15,7 @@ use Rattle.lists.specs.List.{most_rules, signatures}
 use Rattle.scalars.proofs.Masks.{sift_le, mapped-long}
 use Rattle.scalars.proofs.Walks.{Walked}
 use Rattle.lists.proofs.Lists.{turned, turned_out, turned-below, with_rules-less, with_rules_sifted}
-use Rattle.lists.proofs.BothSteps.{both_left, shape-turn, both-turn}
+use Rattle.lists.proofs.StepsTogether.{both_left, shape-turn, both-turn}
 use Rattle.lists.proofs.walks.filter_both.Statement.{statement}
 use Rattle.lists.proofs.walks.filter_both.Tie as tie
 
