@@ -26,7 +26,7 @@ pub mod Expands
 pub mod Preferred
 pub mod Alike
 pub mod Operations
-pub mod StepsTogether
+pub mod BothSteps
 pub mod Agreement
 -- calls
 pub mod Choices

@@ -13,7 +13,7 @@ pub mod Consensus
 pub mod Operations
 pub mod Expands
 pub mod Steps
-pub mod StepsTogether
+pub mod BothSteps
 pub mod Agreement
 pub mod Taking
 pub mod Demand2
