@@ -1,7 +1,6 @@
 -- `read_leaf` answers what the definition of a leaf does: each way through the function is a law of proofs/Steps.antt.
 -- Assumes nothing.
 use mathlib.Core.Path.{sym, ◌∙◌}
-use borrow.Author.Rules.{rules}
 use native.Mathlib.Omega.{arith}
 use Rattle.expressions.proofs.Steps.{leaf-cut, leaf-unknown, leaf_abstract, leaf-read}
 use Rattle.expressions.proofs.expression.read_leaf.Goals as goal
