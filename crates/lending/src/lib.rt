@@ -2,6 +2,7 @@
 // bytes as the rules need, eight rules a byte. Bit i of a mask stands for rule i.
 //
 // Every public function ends on every input and tests it itself.
+#![tactic(auto)]
 
 mod bytes;
 mod masks;

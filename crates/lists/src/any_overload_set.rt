@@ -91,7 +91,7 @@ impl AnyOverloadSet {
 
     // The rules whose type at an argument fits a part of this one, as its kind answers.
     pub fn arg(self, part: Part, i: usize, t: u8) -> AnyAnswer
-        ensures* { λ r. ⌜ any_paper r ≡ by_set (λ r. of_regular (regular_arg part i t r)) (λ l. of_list (list_arg part i t l)) self ⌝ }
+        ensures { any_paper result ≡ by_set (λ r. of_regular (regular_arg part i t r)) (λ l. of_list (list_arg part i t l)) self }
     {
         let kind = self.kind;
         match kind {
@@ -102,7 +102,7 @@ impl AnyOverloadSet {
 
     // The rules without an abstract argument, as its kind answers.
     pub fn concrete_only(self) -> AnyAnswer
-        ensures* { λ r. ⌜ any_paper r ≡ by_set (λ r. of_regular (regular_concrete r)) (λ l. of_list (list_step keep.Concrete l)) self ⌝ }
+        ensures { any_paper result ≡ by_set (λ r. of_regular (regular_concrete r)) (λ l. of_list (list_step keep.Concrete l)) self }
     {
         let kind = self.kind;
         match kind {

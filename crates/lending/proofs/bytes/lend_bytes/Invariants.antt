@@ -1,14 +1,8 @@
--- `lend_bytes` meets its contract. The loop's invariant: the buffer holds the bytes copied so far, and behind them its own. The measure
--- is what is left to copy. Assumes nothing.
-use mathlib.Core.Path.{◌≡◌, refl, sym, ap, ◌∙◌}
+-- The loop's invariant: the buffer holds the bytes copied so far, and behind them its own. The measure is what is left to copy.
+use mathlib.Core.Path.{◌≡◌}
 use mathlib.Core.List.{◌++◌}
 use Prim.Native.Nat.{◌-◌, ◌≤◌}
-use native.Mathlib.Omega.{arith}
-use borrow.Author.Tests.{lt-ltb, le-ltb}
-use borrow.Author.Rules.{rules}
-use lib.ListN.{length, take, drop, set, get_or}
-use lib.Seq.{take-length}
-use Rattle.lending.proofs.Placed.{copy_more, copied_length, placed-short, placed-fits}
+use lib.ListN.{length, take, drop}
 use Rattle.lending.proofs.bytes.lend_bytes.Given as goal
 
 abbrev pub invariant-loop-i : goal.invariant-loop-i

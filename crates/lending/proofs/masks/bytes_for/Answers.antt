@@ -1,15 +1,11 @@
 -- `bytes_for` meets its contract: eight rules a byte, rounded up. Assumes nothing.
 use native.Mathlib.Omega.{arith}
 use Rattle.lending.specs.Masks.{bytes_for}
-use borrow.Author.Rules.{rules}
 use Rattle.lending.proofs.masks.bytes_for.Goals as goal
 
 pub returns-then-rules-eq0 : goal.returns-then-rules-eq0
 unfolding bytes_for
 returns-then-rules-eq0 c = omega arith
-
-pub overflow_add-result : goal.overflow_add-result
-overflow_add-result c = search rules
 
 pub returns : goal.returns
 unfolding bytes_for

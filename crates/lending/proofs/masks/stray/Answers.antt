@@ -4,35 +4,17 @@ use Prim.Native.Nat.{◌-◌, ◌*◌, ◌/◌}
 use Rattle.scalars.proofs.Masks.{bit_is}
 use Rattle.lending.specs.Masks.{bytes_for}
 use Rattle.lending.proofs.ByteMasks.{Bytes, no_stray, stray-last}
-use borrow.Author.Rules.{rules}
 use Rattle.lending.proofs.masks.stray.Goals as goal
 
 pub returns-then-rules-eq0 : goal.returns-then-rules-eq0
 returns-then-rules-eq0 c = no_stray _ _ c.if-rules-eq0.true
 
-pub overflow_sub-last : goal.overflow_sub-last
-overflow_sub-last c = search rules
-
-pub overflow_mul-used : goal.overflow_mul-used
-overflow_mul-used c = search rules
-
-pub overflow_sub-used : goal.overflow_sub-used
-overflow_sub-used c = search rules
-
-pub overflow_cast-result : goal.overflow_cast-result
-overflow_cast-result c = search rules
-
-pub overflow_shl-result : goal.overflow_shl-result
-overflow_shl-result c = search rules
-
 pub bounds-bytes-last : goal.bounds-bytes-last
 unfolding bytes_for
 bounds-bytes-last c = omega arith
 
-pub wide-requires : goal.wide-requires
-wide-requires c = search rules
-
 pub returns : goal.returns
 returns c =
-    let bytes : Bytes c.args.bytes.now = λ i h. omega (arith, c.shared_slice_known-2-1.given i) in
-    rw (c.wide.ensures, bit_is 16 (c.args.rules - (c.args.rules - 1) / 8 * 8) (omega arith)) (stray-last c.args.bytes.now bytes c.args.rules (omega arith) c.requires)
+    let bytes : Bytes c.args.bytes.now = λ i h. omega (arith, c.type_inv.bytes i) in
+    rw (c.wide.ensures, bit_is 16 (c.args.rules - (c.args.rules - 1) / 8 * 8) (omega arith))
+    (stray-last c.args.bytes.now bytes c.args.rules (omega arith) c.requires)

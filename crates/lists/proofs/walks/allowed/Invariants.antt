@@ -1,0 +1,28 @@
+-- `allowed` meets its contract. The loop's invariant: the types so far, followed by those of the members that are left, are the whole
+-- listing of types, and the rest have the argument if and only if all have it. Assumes nothing.
+use mathlib.Core.Path.{◌≡◌, refl, sym, ap, ap₂, ◌∙◌}
+use mathlib.Core.List.{List, [], ◌∷◌, map}
+use Prim.Native.Nat.{ℕ, ◌+◌, ◌^◌, ◌<◌}
+use native.Mathlib.Nat.{zero-add}
+use native.Mathlib.Omega.{arith}
+use lib.ListN.{length, length-set, length-map, length-replicate}
+use lib.Seq.{sets}
+use borrow.Author.Rules.{rules}
+use Rattle.scalars.specs.Mask.{select, padded, every}
+use Rattle.scalars.specs.Paper.{accepted, unused}
+use Rattle.rules.specs.Listing.{most_listed, accepted_types}
+use Rattle.rules.specs.Rule.{blank_rule, arguments_of, signature_of}
+use Rattle.rules.specs.Signature.{type_at}
+use Rattle.lists.specs.List.{most_rules, signatures, listing}
+use Rattle.scalars.proofs.Fills.{filled, fill_step, fill_end}
+use Rattle.scalars.proofs.Walks.{Walked}
+use Rattle.rules.proofs.Records.{has_at, clean-count}
+use Rattle.lists.proofs.Lists.{valid-long, valid-within, rule-clean, turned, turned_out, none_left, listing-length}
+use Rattle.lists.proofs.TypesAt.{lacks, has, all_have}
+use Rattle.lists.proofs.walks.allowed.Given as goal
+
+abbrev pub invariant-loop-out : goal.invariant-loop-out
+invariant-loop-out l = (l.walk.0 < 2 ^ length (signatures l.list)) × (l.count + length (select (signatures l.list) l.walk.0) ≡ length (listing l.list)) × (length l.out ≡ most_listed) × (sets l.out l.count (map (type_at l.i) (select (signatures l.list) l.walk.0)) ≡ padded most_listed unused (map (type_at l.i) (listing l.list))) × (every (has_at l.i) (select (signatures l.list) l.walk.0) ≡ every (has_at l.i) (listing l.list))
+
+abbrev pub decreases-loop-out : goal.decreases-loop-out
+decreases-loop-out l = l.walk.0

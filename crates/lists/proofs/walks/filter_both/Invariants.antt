@@ -1,0 +1,27 @@
+-- `filter_both` meets its contract. The loop's invariant: of either mask, the members kept so far, and those that pass among the rest, are
+-- those that pass. Assumes nothing.
+use mathlib.Core.Path.{◌≡◌, refl, sym, ap, ◌∙◌}
+use Prim.Native.Nat.{◌+◌, ◌^◌, ◌<◌}
+use native.Mathlib.Nat.{zero-add}
+use native.Mathlib.Omega.{arith}
+use lib.ListN.{length, get_or}
+use borrow.Author.Rules.{rules}
+use Rattle.scalars.specs.Mask.{sift}
+use Rattle.rules.specs.Signature.{fits, takes}
+use Rattle.rules.specs.Rule.{signature_of}
+use Rattle.rules.specs.declared.rule.Part.TheVariants.{Shape, Number}
+use Rattle.rules.proofs.Records.{zero_rule}
+use Rattle.lists.specs.List.{most_rules, signatures}
+use Rattle.scalars.proofs.Masks.{sift_le, mapped-long}
+use Rattle.scalars.proofs.Walks.{Walked}
+use Rattle.lists.proofs.Lists.{turned, turned_out, turned-below, with_rules-less, with_rules_sifted}
+use Rattle.lists.proofs.StepsTogether.{both_left, shape-turn, both-turn}
+use Rattle.lists.proofs.walks.filter_both.Given as goal
+
+abbrev pub invariant-loop-bit : goal.invariant-loop-bit
+invariant-loop-bit l = (l.walk.0 < 2 ^ length (signatures l.list))
+    × (l.shaped + sift (fits Shape l.i l.t) (signatures l.list) l.walk.0 ≡ sift (fits Shape l.i l.t) (signatures l.list) l.initial.walk.0)
+    × (l.left + sift (takes l.i l.t) (signatures l.list) l.walk.0 ≡ sift (takes l.i l.t) (signatures l.list) l.initial.walk.0)
+
+abbrev pub decreases-loop-bit : goal.decreases-loop-bit
+decreases-loop-bit l = l.walk.0
