@@ -3,7 +3,7 @@ use mathlib.Core.Path.{◌≡◌, sym, ap, ap₂, ◌∙◌}
 use mathlib.Core.Bool.{Bool, true, false}
 use mathlib.Core.List as L
 use mathlib.Core.List.{[], ◌∷◌, ◌++◌, map, append_assoc}
-use Prim.Native.Nat.{ℕ, zero, suc, ◌+◌, ◌-◌, ◌^◌, ◌≤◌, ◌<◌}
+use Prim.Native.Nat.{ℕ, zero, suc, ◌-◌, ◌^◌, ◌≤◌, ◌<◌}
 use native.Mathlib.Nat.{suc-sub-suc, sub-zero}
 use native.Mathlib.Omega.{arith}
 use lib.Dec.{leb}
@@ -23,7 +23,6 @@ use Rattle.regular.specs.private.Tested.{concluded_listing}
 use Rattle.lists.specs.Expansion.{list_of, expanded}
 use Rattle.scalars.specs.declared.answer.CountAnswer.{CountAnswer}
 use Rattle.scalars.specs.declared.answer.CountAnswer.TheVariants as count
-use Rattle.lists.specs.declared.list.List.{List}
 use Rattle.rules.specs.declared.listing.Listing.{Listing}
 use Rattle.scalars.specs.declared.refusal.Refusal.{Refusal}
 use Rattle.regular.specs.declared.regular.Regular.{Regular}

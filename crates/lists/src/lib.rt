@@ -3,6 +3,7 @@
 //
 // Beside `list` stand `walks`, the loops over a List's members, and `expansion`, a Regular set as a List. Every public function ends on
 // every input and tests it itself, but for the bare walks that docs/DECISIONS.md lists.
+#![tactic(auto)]
 
 mod any_overload_set;
 mod expansion;

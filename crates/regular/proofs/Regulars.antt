@@ -2,7 +2,7 @@
 use mathlib.Core.Path.{◌≡◌, refl, sym, ap, ap₂, ◌∙◌, subst, subst⁻¹}
 use mathlib.Core.Bool.{Bool, true, false}
 use mathlib.Core.List.{List, [], ◌∷◌, map}
-use Prim.Native.Nat.{ℕ, ◌+◌, ◌-◌, ◌*◌, ◌^◌, ◌≤◌, ◌<◌}
+use Prim.Native.Nat.{ℕ, ◌+◌, ◌*◌, ◌^◌, ◌≤◌, ◌<◌}
 use native.Mathlib.Nat.{mul-le-mul, suc-mul, zero-mul}
 use native.Mathlib.Omega.{arith}
 use lib.Count.{count_trailing_zeros, ones}
@@ -13,7 +13,7 @@ use Rattle.rules.specs.Listing.{most_listed}
 use Rattle.scalars.specs.Mask.{choose, both, either, bits, mask_of}
 use Rattle.scalars.specs.Domain.{scalar_count}
 use Rattle.scalars.specs.Scalar.{most_general, first_scalar}
-use Rattle.types.specs.Domain.{constructor_count, other_type, constructor_part, scalar_part}
+use Rattle.types.specs.Domain.{constructor_count}
 use Rattle.types.specs.TypeCode.{type_code}
 use Rattle.types.specs.TypePaper.{size_values}
 use Rattle.types.specs.Constructor.{sizes, constructor_size, size_of_one, set_size}

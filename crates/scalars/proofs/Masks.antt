@@ -1,12 +1,12 @@
 -- Laws of masks over lists: the lowest member and the rest, and the members that pass a test. Assumes nothing.
-use mathlib.Core.Path.{◌≡◌, refl, sym, ap, ap₂, ◌∙◌, subst, subst⁻¹}
+use mathlib.Core.Path.{◌≡◌, refl, sym, ap, ap₂, ◌∙◌, subst}
 use mathlib.Core.Bool.{Bool, true, false}
 use mathlib.Core.List.{List, [], ◌∷◌, map}
 use Prim.Native.Nat.{ℕ, zero, suc, ◌+◌, ◌-◌, ◌*◌, ◌/◌, ◌%◌, ◌^◌, ◌≤◌, ◌<◌, suc-le-suc, zero-le}
-use native.Mathlib.Nat.{zero-add, add-zero, one-mul, lt_of_lt_of_le, lt_of_le_of_lt, not-suc-le-zero, le_of_suc-le-suc, mod-lt, zero-lt-suc, pow-suc, lt_irrefl, mod-eq_of_lt}
+use native.Mathlib.Nat.{zero-add, add-zero, one-mul, lt_of_le_of_lt, not-suc-le-zero, le_of_suc-le-suc, mod-lt, zero-lt-suc, pow-suc, lt_irrefl, mod-eq_of_lt}
 use native.Mathlib.Omega.{arith}
 use native.Mathlib.Numerals.{add-one, one-add}
-use lib.Pow.{mod-mod-pow, field, pow_mono, pow-lt, pow_pos}
+use lib.Pow.{mod-mod-pow, field, pow-lt, pow_pos}
 use lib.Count.{count_trailing_zeros, under, ones, ones_step}
 use lib.Dec.{eqb}
 use lib.ListN.{length, get_or, length-map}

@@ -1,5 +1,6 @@
 // The twelve scalars and sets of them, walks over set bits, and the refusals: naga's `src/proc/overloads/one_bits_iter.rs` and
 // `scalar_set.rs`. Every public function ends on every input and tests it itself.
+#![tactic(auto)]
 
 mod answer;
 mod one_bits_iter;

@@ -2,7 +2,6 @@
 -- Assumes nothing.
 use mathlib.Core.Path.{◌≡◌, refl, sym, ap, ap₂, ◌∙◌}
 use mathlib.Core.Bool.{Bool, true, false}
-use mathlib.Core.Logic.{⊎_elim}
 use mathlib.Core.List.{List, [], ◌∷◌}
 use Prim.Native.Nat.{ℕ, ◌+◌, ◌*◌, ◌/◌, ◌%◌, ◌<◌}
 use native.Mathlib.Omega.{arith}
@@ -18,10 +17,8 @@ use Rattle.types.specs.Conversion.{converts_to, combination, side, combined, non
 use Rattle.types.specs.private.Agreeing.{pair_count, combinations}
 use Rattle.types.specs.declared.conversion.Combination.{Combination}
 use Rattle.types.specs.declared.conversion.Combination.TheVariants as answer
-use Rattle.types.specs.contracts.conversion.Combination as declared
 use Rattle.scalars.proofs.Scalars.{reached}
 use Rattle.scalars.proofs.Table.{at, entry}
-use denote.Enum.Declared.{tag_of}
 use Rattle.scalars.specs.declared.scalar_set.Scalar.{Scalar}
 use Rattle.types.specs.declared.conversion.Side.{Side}
 

@@ -1,7 +1,6 @@
 -- Type codes: which answers are one, and which types have a scalar. Assumes nothing.
 use mathlib.Core.Path.{◌≡◌, refl, ap}
 use mathlib.Core.Bool.{Bool, true, false}
-use mathlib.Core.Logic.{⊎_elim}
 use mathlib.Core.List.{[], ◌∷◌}
 use Prim.Native.Nat.{ℕ, ◌%◌, ◌≤◌, ◌<◌}
 use native.Mathlib.Omega.{arith}
@@ -15,8 +14,6 @@ use Rattle.scalars.specs.Paper.{Paper, accepted, refusal, unused}
 use Rattle.types.specs.TypePaper.{leaf_paper}
 use Rattle.types.specs.declared.type_code.LeafScalar.{LeafScalar}
 use Rattle.types.specs.declared.type_code.LeafScalar.TheVariants as leaf
-use Rattle.types.specs.contracts.type_code.LeafScalar as leaf-scalar
-use denote.Enum.Declared.{tag_of}
 use Rattle.scalars.specs.declared.scalar_set.Scalar.{Scalar}
 
 -- ---- an answer that is a code

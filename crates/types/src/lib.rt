@@ -1,6 +1,7 @@
 // Constructors and type codes by their numbers, sets of constructors as masks, which scalar converts to which, and consensus: naga's
 // `src/proc/overloads/constructor_set.rs`, the conversions of scalars of `type_methods.rs` and the front end's consensus, above the
 // crate `scalars`. Beside them stand `type_code`, `operand` and `marks`. Every public function ends on every input and tests it itself.
+#![tactic(auto)]
 
 mod constructor_set;
 mod conversion;

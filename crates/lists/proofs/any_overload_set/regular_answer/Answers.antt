@@ -4,7 +4,6 @@ use mathlib.Core.Path.{ap}
 use mathlib.Core.List.{List}
 use Prim.Native.Nat.{ℕ}
 use Rattle.scalars.specs.Paper.{accepted, refused}
-use borrow.Author.Rules.{rules}
 use Rattle.lists.proofs.any_overload_set.regular_answer.Goals as goal
 
 pub returns-in-Set : goal.returns-in-Set

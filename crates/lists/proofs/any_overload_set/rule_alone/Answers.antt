@@ -1,6 +1,5 @@
 -- `rule_alone` meets its contract.
 -- Assumes nothing.
-use borrow.Author.Rules.{rules}
 use Rattle.lists.proofs.any_overload_set.rule_alone.Goals as goal
 
 pub returns-in-Rule : goal.returns-in-Rule

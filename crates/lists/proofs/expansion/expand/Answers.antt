@@ -14,7 +14,6 @@ use Rattle.regular.proofs.Regulars.{accepted-known, codes-count}
 use Rattle.regular.proofs.Listings.{codes-few}
 use Rattle.lists.proofs.Expanding.{expand_many, expand_refused, expand_list}
 use Rattle.scalars.specs.Paper.{verdict_paper}
-use borrow.Author.Rules.{rules}
 use Rattle.lists.proofs.expansion.expand.Goals as goal
 
 -- the set is accepted, and the product of its two counts is the number of its rules

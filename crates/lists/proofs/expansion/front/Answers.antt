@@ -1,10 +1,8 @@
 -- `front` meets its contract. The loop's invariant: the rules copied so far, followed by those that are left, are the first 63.
 -- Assumes nothing.
 use mathlib.Core.Path.{◌≡◌}
-use Prim.Native.Nat.{◌-◌, ◌≤◌}
 use native.Mathlib.Omega.{arith}
-use lib.ListN.{length, take, drop, length-replicate, length-set}
-use lib.Seq.{sets}
+use lib.ListN.{length, length-replicate, length-set}
 use borrow.Author.Rules.{rules}
 use Rattle.rules.specs.Listing.{most_listed}
 use Rattle.lists.specs.List.{most_rules}

@@ -2,17 +2,9 @@
 -- Assumes nothing.
 use mathlib.Core.Path.{◌≡◌}
 use Prim.Native.Nat.{◌-◌, ◌≤◌}
-use native.Mathlib.Omega.{arith}
-use lib.ListN.{length, take, drop, length-replicate, length-set}
+use lib.ListN.{length, take, drop}
 use lib.Seq.{sets}
-use borrow.Author.Rules.{rules}
-use Rattle.rules.specs.Listing.{most_listed}
 use Rattle.lists.specs.List.{most_rules}
-use Rattle.rules.specs.Rule.{blank_rule}
-use Rattle.scalars.proofs.Masks.{mapped-long}
-use Rattle.rules.proofs.Records.{zero_rule}
-use Rattle.scalars.proofs.Prefixes.{next, ended}
-use Rattle.scalars.proofs.Fills.{fill_step, fill_end, filled-whole}
 use Rattle.lists.proofs.expansion.front.Given as goal
 
 abbrev pub invariant-loop-i : goal.invariant-loop-i

@@ -1,12 +1,10 @@
 -- `all_known` meets its contract. The loop's invariant: the rules from here on are known if and only if all of them are. Assumes nothing.
 use mathlib.Core.Path.{◌≡◌, refl, sym, ◌∙◌}
-use Prim.Native.Nat.{◌-◌, ◌≤◌}
+use Prim.Native.Nat.{◌≤◌}
 use native.Mathlib.Omega.{arith}
-use lib.ListN.{length, take, drop}
+use lib.ListN.{length}
 use borrow.Author.Rules.{rules}
-use borrow.Author.Tests.{not-true, not-false}
 use Rattle.lists.specs.List.{most_rules}
-use Rattle.scalars.specs.Mask.{every}
 use Rattle.rules.specs.Rule.{known_rule}
 use Rattle.scalars.proofs.Masks.{mapped-long}
 use Rattle.rules.proofs.Records.{zero_rule}

@@ -1,16 +1,9 @@
 -- `all_short` meets its contract. The loop's invariant: the rules from here on are short if and only if all of them are. Assumes nothing.
-use mathlib.Core.Path.{◌≡◌, refl}
+use mathlib.Core.Path.{◌≡◌}
 use Prim.Native.Nat.{◌-◌, ◌≤◌}
-use native.Mathlib.Omega.{arith}
-use lib.ListN.{length, take, drop}
-use borrow.Author.Rules.{rules}
-use borrow.Author.Tests.{lt-leb, le-leb}
-use Rattle.lists.specs.List.{most_rules}
+use lib.ListN.{take, drop}
 use Rattle.scalars.specs.Mask.{every}
 use Rattle.rules.specs.Rule.{short_rule}
-use Rattle.scalars.proofs.Masks.{mapped-long}
-use Rattle.rules.proofs.Records.{zero_rule}
-use Rattle.scalars.proofs.Prefixes.{every-fails, every-next, every-ends}
 use Rattle.lists.proofs.list.all_short.Given as goal
 
 abbrev pub invariant-loop-i : goal.invariant-loop-i

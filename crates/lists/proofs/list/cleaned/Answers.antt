@@ -1,16 +1,13 @@
 -- `cleaned` meets its contract. The loop's invariant: the records so far, followed by those of the rules that are left, are the whole
 -- array. Assumes nothing.
 use mathlib.Core.Path.{◌≡◌, refl, ap}
-use mathlib.Core.List.{List, map}
-use Prim.Native.Nat.{◌-◌, ◌≤◌}
+use Prim.Native.Nat.{◌≤◌}
 use native.Mathlib.Omega.{arith}
-use lib.ListN.{length, take, drop, length-set, length-map}
-use lib.Seq.{sets, length-take-le}
+use lib.ListN.{length, take, length-set, length-map}
+use lib.Seq.{length-take-le}
 use borrow.Author.Rules.{rules}
 use Rattle.lists.specs.List.{most_rules}
-use Rattle.scalars.specs.Mask.{padded}
-use Rattle.rules.specs.Rule.{blank_rule, signature_of, rule_of}
-use Rattle.rules.specs.declared.rule.Rule.{Rule}
+use Rattle.rules.specs.Rule.{blank_rule}
 use Rattle.scalars.proofs.Fills.{filled, fill_step, fill_end}
 use Rattle.rules.proofs.Records.{zero_rule}
 use Rattle.scalars.proofs.Masks.{mapped-long}
@@ -26,13 +23,12 @@ loop-i-init c = (omega arith, refl, filled most_rules blank_rule (records (take 
 
 pub loop-i-preserved : goal.loop-i-preserved
 loop-i-preserved c =
-    let enough : c.args.n ≤ length c.args.rules = let l : length c.args.rules ≡ most_rules = search (rules, mapped-long) in omega arith in
-    (
-  omega arith,
-  simp length-set c.loop-i.invariant.1,
-  rw c.cleaned.ensures
-      (fill_step _ _ (ap records (next zero_rule _ _ _ enough c.loop-i-test.true)) c.loop-i.invariant.2),
-)
+    let enough : c.args.n ≤ length c.args.rules = let l : length c.args.rules ≡ most_rules = search (rules, mapped-long) in omega arith in (
+      omega arith,
+      simp length-set c.loop-i.invariant.1,
+      rw c.cleaned.ensures
+          (fill_step _ _ (ap records (next zero_rule _ _ _ enough c.loop-i-test.true)) c.loop-i.invariant.2),
+    )
 
 pub returns : goal.returns
 returns c =

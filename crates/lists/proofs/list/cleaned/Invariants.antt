@@ -1,20 +1,14 @@
 -- `cleaned` meets its contract. The loop's invariant: the records so far, followed by those of the rules that are left, are the whole
 -- array. Assumes nothing.
-use mathlib.Core.Path.{◌≡◌, refl, ap}
+use mathlib.Core.Path.{◌≡◌}
 use mathlib.Core.List.{List, map}
 use Prim.Native.Nat.{◌-◌, ◌≤◌}
-use native.Mathlib.Omega.{arith}
-use lib.ListN.{length, take, drop, length-set, length-map}
-use lib.Seq.{sets, length-take-le}
-use borrow.Author.Rules.{rules}
+use lib.ListN.{length, take, drop}
+use lib.Seq.{sets}
 use Rattle.lists.specs.List.{most_rules}
 use Rattle.scalars.specs.Mask.{padded}
 use Rattle.rules.specs.Rule.{blank_rule, signature_of, rule_of}
 use Rattle.rules.specs.declared.rule.Rule.{Rule}
-use Rattle.scalars.proofs.Fills.{filled, fill_step, fill_end}
-use Rattle.rules.proofs.Records.{zero_rule}
-use Rattle.scalars.proofs.Masks.{mapped-long}
-use Rattle.scalars.proofs.Prefixes.{next, ended}
 use Rattle.lists.proofs.list.cleaned.Given as goal
 
 abbrev pub records : List Rule → List Rule

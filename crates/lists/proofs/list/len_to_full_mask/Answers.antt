@@ -2,7 +2,6 @@
 -- Assumes nothing.
 use native.Mathlib.Omega.{arith}
 use lib.Pow.{pow_pos}
-use borrow.Author.Rules.{rules}
 use borrow.Author.Tests.{le-leb, lt-leb}
 use Rattle.scalars.proofs.Masks.{bit_is}
 use Rattle.lists.proofs.list.len_to_full_mask.Goals as goal

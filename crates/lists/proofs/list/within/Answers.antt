@@ -5,7 +5,6 @@ use native.Mathlib.Nat.{lt_of_lt_of_le}
 use native.Mathlib.Omega.{arith}
 use lib.Dec.{ltb}
 use lib.Pow.{pow_mono}
-use borrow.Author.Rules.{rules}
 use borrow.Author.Tests.{lt-ltb}
 use Rattle.scalars.proofs.Masks.{bit_is}
 use Rattle.lists.proofs.list.within.Goals as goal

@@ -2,13 +2,11 @@
 -- listing of types, and the rest have the argument if and only if all have it. Assumes nothing.
 use mathlib.Core.Path.{◌≡◌, refl, sym, ap, ap₂, ◌∙◌}
 use mathlib.Core.List.{List, [], ◌∷◌, map}
-use Prim.Native.Nat.{ℕ, ◌+◌, ◌^◌, ◌<◌}
+use Prim.Native.Nat.{ℕ, ◌<◌}
 use native.Mathlib.Nat.{zero-add}
 use native.Mathlib.Omega.{arith}
 use lib.ListN.{length, length-set, length-map, length-replicate}
-use lib.Seq.{sets}
-use borrow.Author.Rules.{rules}
-use Rattle.scalars.specs.Mask.{select, padded, every}
+use Rattle.scalars.specs.Mask.{select}
 use Rattle.scalars.specs.Paper.{accepted, unused}
 use Rattle.rules.specs.Listing.{most_listed, accepted_types}
 use Rattle.rules.specs.Rule.{blank_rule, arguments_of, signature_of}
@@ -16,7 +14,7 @@ use Rattle.rules.specs.Signature.{type_at}
 use Rattle.lists.specs.List.{most_rules, signatures, listing}
 use Rattle.scalars.proofs.Fills.{filled, fill_step, fill_end}
 use Rattle.scalars.proofs.Walks.{Walked}
-use Rattle.rules.proofs.Records.{has_at, clean-count}
+use Rattle.rules.proofs.Records.{clean-count}
 use Rattle.lists.proofs.Lists.{valid-long, valid-within, rule-clean, turned, turned_out, none_left, listing-length}
 use Rattle.lists.proofs.TypesAt.{lacks, has, all_have}
 use Rattle.lists.proofs.walks.allowed.Goals as goal
@@ -83,8 +81,7 @@ loop-out-smaller c = let t = lowest c in omega (arith, t.apart, t.some)
 pub loop-out-preserved : goal.loop-out-preserved
 loop-out-preserved c =
     let t = lowest c in
-    let inv = c.loop-out.invariant in
-    (
+    let inv = c.loop-out.invariant in (
       t.less,
       omega (arith, inv.1, ap length t.members),
       simp length-set inv.2,

@@ -1,24 +1,16 @@
 -- `allowed` meets its contract. The loop's invariant: the types so far, followed by those of the members that are left, are the whole
 -- listing of types, and the rest have the argument if and only if all have it. Assumes nothing.
-use mathlib.Core.Path.{◌≡◌, refl, sym, ap, ap₂, ◌∙◌}
-use mathlib.Core.List.{List, [], ◌∷◌, map}
-use Prim.Native.Nat.{ℕ, ◌+◌, ◌^◌, ◌<◌}
-use native.Mathlib.Nat.{zero-add}
-use native.Mathlib.Omega.{arith}
-use lib.ListN.{length, length-set, length-map, length-replicate}
+use mathlib.Core.Path.{◌≡◌}
+use mathlib.Core.List.{map}
+use Prim.Native.Nat.{◌+◌, ◌^◌, ◌<◌}
+use lib.ListN.{length}
 use lib.Seq.{sets}
-use borrow.Author.Rules.{rules}
 use Rattle.scalars.specs.Mask.{select, padded, every}
-use Rattle.scalars.specs.Paper.{accepted, unused}
-use Rattle.rules.specs.Listing.{most_listed, accepted_types}
-use Rattle.rules.specs.Rule.{blank_rule, arguments_of, signature_of}
+use Rattle.scalars.specs.Paper.{unused}
+use Rattle.rules.specs.Listing.{most_listed}
 use Rattle.rules.specs.Signature.{type_at}
-use Rattle.lists.specs.List.{most_rules, signatures, listing}
-use Rattle.scalars.proofs.Fills.{filled, fill_step, fill_end}
-use Rattle.scalars.proofs.Walks.{Walked}
-use Rattle.rules.proofs.Records.{has_at, clean-count}
-use Rattle.lists.proofs.Lists.{valid-long, valid-within, rule-clean, turned, turned_out, none_left, listing-length}
-use Rattle.lists.proofs.TypesAt.{lacks, has, all_have}
+use Rattle.lists.specs.List.{signatures, listing}
+use Rattle.rules.proofs.Records.{has_at}
 use Rattle.lists.proofs.walks.allowed.Given as goal
 
 abbrev pub invariant-loop-out : goal.invariant-loop-out

@@ -1,7 +1,7 @@
 -- `filter_both` meets its contract. The loop's invariant: of either mask, the members kept so far, and those that pass among the rest, are
 -- those that pass. Assumes nothing.
 use mathlib.Core.Path.{◌≡◌, refl, sym, ap, ◌∙◌}
-use Prim.Native.Nat.{◌+◌, ◌^◌, ◌<◌}
+use Prim.Native.Nat.{◌+◌}
 use native.Mathlib.Nat.{zero-add}
 use native.Mathlib.Omega.{arith}
 use lib.ListN.{length, get_or}

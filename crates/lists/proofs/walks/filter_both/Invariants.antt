@@ -1,21 +1,12 @@
 -- `filter_both` meets its contract. The loop's invariant: of either mask, the members kept so far, and those that pass among the rest, are
 -- those that pass. Assumes nothing.
-use mathlib.Core.Path.{◌≡◌, refl, sym, ap, ◌∙◌}
+use mathlib.Core.Path.{◌≡◌}
 use Prim.Native.Nat.{◌+◌, ◌^◌, ◌<◌}
-use native.Mathlib.Nat.{zero-add}
-use native.Mathlib.Omega.{arith}
-use lib.ListN.{length, get_or}
-use borrow.Author.Rules.{rules}
+use lib.ListN.{length}
 use Rattle.scalars.specs.Mask.{sift}
 use Rattle.rules.specs.Signature.{fits, takes}
-use Rattle.rules.specs.Rule.{signature_of}
-use Rattle.rules.specs.declared.rule.Part.TheVariants.{Shape, Number}
-use Rattle.rules.proofs.Records.{zero_rule}
-use Rattle.lists.specs.List.{most_rules, signatures}
-use Rattle.scalars.proofs.Masks.{sift_le, mapped-long}
-use Rattle.scalars.proofs.Walks.{Walked}
-use Rattle.lists.proofs.Lists.{turned, turned_out, turned-below, with_rules-less, with_rules_sifted}
-use Rattle.lists.proofs.StepsTogether.{both_left, shape-turn, both-turn}
+use Rattle.rules.specs.declared.rule.Part.TheVariants.{Shape}
+use Rattle.lists.specs.List.{signatures}
 use Rattle.lists.proofs.walks.filter_both.Given as goal
 
 abbrev pub invariant-loop-bit : goal.invariant-loop-bit

@@ -1,8 +1,6 @@
 -- `first` meets its contract: the lowest bit's number is the first member's index, and the array holds its record there.
 -- Assumes nothing.
 use mathlib.Core.Path.{sym, ap}
-use native.Mathlib.Omega.{arith}
-use borrow.Author.Rules.{rules}
 use Rattle.lists.specs.List.{preferred_of}
 use Rattle.scalars.proofs.Walks.{taken}
 use Rattle.lists.proofs.Lists.{valid-long, valid-within, valid-word, turned_out, entries_none, preferred-first}

@@ -2,13 +2,11 @@
 -- listing. Assumes nothing.
 use mathlib.Core.Path.{◌≡◌, ap, ap₂, ◌∙◌}
 use mathlib.Core.List.{List, map, [], ◌∷◌}
-use Prim.Native.Nat.{ℕ, ◌+◌, ◌^◌, ◌<◌}
+use Prim.Native.Nat.{ℕ, ◌<◌}
 use native.Mathlib.Nat.{zero-add}
 use native.Mathlib.Omega.{arith}
 use lib.ListN.{length, length-set, length-map, length-replicate}
-use lib.Seq.{sets}
-use borrow.Author.Rules.{rules}
-use Rattle.scalars.specs.Mask.{select, padded}
+use Rattle.scalars.specs.Mask.{select}
 use Rattle.scalars.specs.Paper.{accepted}
 use Rattle.rules.specs.Rule.{blank_rule, rule_of, signature_of}
 use Rattle.rules.specs.RulePaper.{rules_values}

@@ -2,16 +2,15 @@
 -- Assumes nothing.
 use mathlib.Core.Path.{◌≡◌, refl, ap, ◌∙◌}
 use mathlib.Core.List.{[], ◌∷◌}
-use Prim.Native.Nat.{ℕ, ◌^◌, ◌<◌, max}
+use Prim.Native.Nat.{ℕ, ◌<◌}
 use native.Mathlib.Omega.{arith}
 use lib.ListN.{length, get_or}
 use borrow.Author.Rules.{rules}
-use Rattle.scalars.specs.Mask.{select}
 use Rattle.scalars.specs.Paper.{accepted}
 use Rattle.rules.specs.Rule.{signature_of}
 use Rattle.rules.specs.Verdict.{longest}
 use Rattle.rules.proofs.Records.{zero_rule}
-use Rattle.lists.specs.List.{most_rules, signatures, listing}
+use Rattle.lists.specs.List.{most_rules, signatures}
 use Rattle.scalars.proofs.Masks.{mapped-long}
 use Rattle.scalars.proofs.Walks.{Walked}
 use Rattle.lists.proofs.Lists.{turned, turned_out, turned-below, none_left, with_rules-less, with_rules-listed, counted_none, counted}

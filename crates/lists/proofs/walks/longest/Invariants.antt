@@ -1,20 +1,11 @@
 -- `longest` meets its contract. The loop's invariant: the larger of the best so far and the longest of the rest is the longest of all.
 -- Assumes nothing.
-use mathlib.Core.Path.{◌≡◌, refl, ap, ◌∙◌}
-use mathlib.Core.List.{[], ◌∷◌}
-use Prim.Native.Nat.{ℕ, ◌^◌, ◌<◌, max}
-use native.Mathlib.Omega.{arith}
-use lib.ListN.{length, get_or}
-use borrow.Author.Rules.{rules}
+use mathlib.Core.Path.{◌≡◌}
+use Prim.Native.Nat.{◌^◌, ◌<◌, max}
+use lib.ListN.{length}
 use Rattle.scalars.specs.Mask.{select}
-use Rattle.scalars.specs.Paper.{accepted}
-use Rattle.rules.specs.Rule.{signature_of}
 use Rattle.rules.specs.Verdict.{longest}
-use Rattle.rules.proofs.Records.{zero_rule}
-use Rattle.lists.specs.List.{most_rules, signatures, listing}
-use Rattle.scalars.proofs.Masks.{mapped-long}
-use Rattle.scalars.proofs.Walks.{Walked}
-use Rattle.lists.proofs.Lists.{turned, turned_out, turned-below, none_left, with_rules-less, with_rules-listed, counted_none, counted}
+use Rattle.lists.specs.List.{signatures, listing}
 use Rattle.lists.proofs.walks.longest.Given as goal
 
 abbrev pub invariant-loop-bit : goal.invariant-loop-bit

@@ -4,7 +4,6 @@ use mathlib.Core.Path.{ap, ◌∙◌, subst⁻¹}
 use Prim.Native.Nat.{ℕ, ◌%◌, ◌^◌, ◌<◌}
 use native.Mathlib.Omega.{arith}
 use lib.Pow.{pow_pos}
-use borrow.Author.Rules.{rules}
 use Rattle.scalars.proofs.Masks.{bit_is}
 use Rattle.lists.proofs.walks.with_rules.Goals as goal
 

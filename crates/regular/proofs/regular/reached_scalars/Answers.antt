@@ -6,7 +6,6 @@ use Rattle.scalars.specs.Scalar.{convertible_from}
 use Rattle.types.specs.TypePaper.{leaf_paper}
 use Rattle.types.proofs.TypeCodes.{leaf-some, leaf-none}
 use Rattle.regular.specs.Regular.{reached_scalars}
-use borrow.Author.Rules.{rules}
 use Rattle.regular.proofs.regular.reached_scalars.Goals as goal
 
 pub returns-in_default : goal.returns-in_default

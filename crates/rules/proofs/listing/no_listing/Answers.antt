@@ -1,7 +1,6 @@
 -- `no_listing` meets its contract: the answer is the definition's, and the rules are those of `no_rules`. Assumes nothing.
 use mathlib.Core.Path.{ap}
 use mathlib.Core.List.{List, ◌∷◌}
-use borrow.Author.Rules.{rules}
 use Rattle.scalars.specs.Paper.{refused, unused}
 use Rattle.rules.specs.RulePaper.{rules_values}
 use Rattle.rules.specs.Listing.{no_listing}

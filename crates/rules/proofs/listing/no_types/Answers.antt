@@ -2,7 +2,6 @@
 use mathlib.Core.Path.{ap}
 use mathlib.Core.List.{List, ◌∷◌}
 use Prim.Native.Nat.{ℕ}
-use borrow.Author.Rules.{rules}
 use Rattle.scalars.specs.Paper.{refused, unused}
 use Rattle.rules.specs.Listing.{no_types}
 use Rattle.rules.proofs.listing.no_types.Goals as goal

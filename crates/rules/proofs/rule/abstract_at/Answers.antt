@@ -1,7 +1,6 @@
 -- `abstract_at` meets its contract.
 -- Assumes nothing.
 use borrow.Author.Tests.{le-leb, lt-leb}
-use borrow.Author.Rules.{rules}
 use Rattle.rules.proofs.rule.abstract_at.Goals as goal
 
 pub returns-then-count-i : goal.returns-then-count-i

@@ -3,7 +3,6 @@
 use mathlib.Core.Path.{sym, ap, ◌∙◌}
 use Rattle.rules.specs.Rule.{predeclared_of}
 use Rattle.types.specs.TypePaper.{constructor_paper}
-use borrow.Author.Rules.{rules}
 use Rattle.rules.proofs.rule.for_frexp_modf.Goals as goal
 
 pub returns-in-Refused : goal.returns-in-Refused

@@ -1,8 +1,6 @@
 -- `reaches` meets its contract: the shapes are compared, then the numbers.
 -- Assumes nothing.
 use mathlib.Core.Path.{sym, ◌∙◌}
-use borrow.Author.Rules.{rules}
-use borrow.Author.Tests.{not-true, not-false}
 use Rattle.rules.specs.Signature.{reaches}
 use Rattle.rules.proofs.rule.reaches.Goals as goal
 

@@ -2,14 +2,12 @@
 -- the whole list. Assumes nothing.
 use mathlib.Core.Path.{◌≡◌, refl, ap, ap₂}
 use mathlib.Core.List.{List, [], ◌∷◌}
-use Prim.Native.Nat.{ℕ, ◌+◌, ◌^◌, ◌<◌}
+use Prim.Native.Nat.{ℕ, ◌<◌}
 use native.Mathlib.Nat.{zero-add}
 use native.Mathlib.Omega.{arith}
 use lib.Dec.{lit≤}
 use lib.ListN.{length, length-set}
-use lib.Seq.{sets}
-use borrow.Author.Rules.{rules}
-use Rattle.scalars.specs.Mask.{bits, padded}
+use Rattle.scalars.specs.Mask.{bits}
 use Rattle.scalars.specs.OneBits.{listed}
 use Rattle.scalars.specs.Paper.{accepted, unused}
 use Rattle.scalars.proofs.Bits.{bits-length}
@@ -52,10 +50,9 @@ pub loop-numbers-smaller : goal.loop-numbers-smaller
 loop-numbers-smaller c = omega (arith, (turned c).apart, (turned c).some)
 
 pub loop-numbers-preserved : goal.loop-numbers-preserved
-loop-numbers-preserved c =
-    (
-      (turned c).less,
-      omega (arith, c.loop-numbers.invariant.1, ap length (turned c).numbers),
-      simp length-set c.loop-numbers.invariant.2,
-      fill_step c.loop-numbers.numbers c.loop-numbers.count (turned c).numbers c.loop-numbers.invariant.3,
-    )
+loop-numbers-preserved c = (
+  (turned c).less,
+  omega (arith, c.loop-numbers.invariant.1, ap length (turned c).numbers),
+  simp length-set c.loop-numbers.invariant.2,
+  fill_step c.loop-numbers.numbers c.loop-numbers.count (turned c).numbers c.loop-numbers.invariant.3,
+)

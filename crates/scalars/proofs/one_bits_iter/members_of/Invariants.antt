@@ -1,20 +1,11 @@
 -- `members_of` meets its contract. The loop's invariant: the numbers found so far, followed by those of the bits that are left, are
 -- the whole list. Assumes nothing.
-use mathlib.Core.Path.{◌≡◌, refl, ap, ap₂}
-use mathlib.Core.List.{List, [], ◌∷◌}
-use Prim.Native.Nat.{ℕ, ◌+◌, ◌^◌, ◌<◌}
-use native.Mathlib.Nat.{zero-add}
-use native.Mathlib.Omega.{arith}
-use lib.Dec.{lit≤}
-use lib.ListN.{length, length-set}
+use mathlib.Core.Path.{◌≡◌}
+use Prim.Native.Nat.{◌+◌, ◌^◌, ◌<◌}
+use lib.ListN.{length}
 use lib.Seq.{sets}
-use borrow.Author.Rules.{rules}
 use Rattle.scalars.specs.Mask.{bits, padded}
-use Rattle.scalars.specs.OneBits.{listed}
-use Rattle.scalars.specs.Paper.{accepted, unused}
-use Rattle.scalars.proofs.Bits.{bits-length}
-use Rattle.scalars.proofs.Walks.{WalkedBits, walked-bits, ended-bits}
-use Rattle.scalars.proofs.Fills.{filled, fill_step, fill_end}
+use Rattle.scalars.specs.Paper.{unused}
 use Rattle.scalars.proofs.one_bits_iter.members_of.Given as goal
 
 abbrev pub invariant-loop-numbers : goal.invariant-loop-numbers

@@ -2,7 +2,6 @@
 -- Assumes nothing.
 use mathlib.Core.Path.{sym}
 use Rattle.types.proofs.Constructors.{scalar_size, vector-size, matrix-size}
-use borrow.Author.Rules.{rules}
 use Rattle.types.proofs.constructor_set.size_of.Goals as goal
 
 pub returns-then-k-eq-SCALAR : goal.returns-then-k-eq-SCALAR

@@ -1,18 +1,15 @@
 -- `agree_from` meets its contract. The loop's invariant: the best so far is a scalar, and its consensus with what is left, by whoever gave
 -- the best, is the whole consensus. Assumes nothing.
-use mathlib.Core.Path.{◌≡◌, refl, sym, ap, ◌∙◌}
+use mathlib.Core.Path.{refl, sym, ap, ◌∙◌}
 use mathlib.Core.List.{List, ◌∷◌}
-use Prim.Native.Nat.{ℕ, ◌-◌, ◌≤◌, ◌<◌}
+use Prim.Native.Nat.{ℕ, ◌<◌}
 use native.Mathlib.Omega.{arith}
-use lib.ListN.{length, drop}
 use Rattle.scalars.specs.Domain.{scalar_count}
 use Rattle.scalars.specs.Paper.{accepted}
 use Rattle.types.specs.TypePaper.{leaf_paper, combination_paper}
-use Rattle.types.specs.private.Agreeing.{agree_from, giver_in}
 use Rattle.types.proofs.TypeCodes.{leaf-some, leaf-none}
 use Rattle.types.proofs.Combinations.{combined-none}
 use Rattle.types.proofs.Agreeing.{agree-end, agree-without, agree-none, agree-next}
-use borrow.Author.Rules.{rules}
 use Rattle.types.proofs.conversion.agree_from.Goals as goal
 
 pub loop-i-init : goal.loop-i-init

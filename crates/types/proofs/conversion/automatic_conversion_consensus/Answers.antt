@@ -1,6 +1,5 @@
 -- `automatic_conversion_consensus` meets its contract: with and without a base.
 -- Assumes nothing.
-use borrow.Author.Rules.{rules}
 use Rattle.types.proofs.conversion.automatic_conversion_consensus.Goals as goal
 
 pub returns-in-Scalar : goal.returns-in-Scalar

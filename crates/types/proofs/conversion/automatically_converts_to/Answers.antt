@@ -4,7 +4,6 @@ use mathlib.Core.Path.{sym, ◌∙◌}
 use borrow.Author.Tests.{lt-ltb, le-ltb}
 use Rattle.types.proofs.Combinations.{converts-told}
 use Rattle.types.specs.Conversion.{converts_to}
-use borrow.Author.Rules.{rules}
 use Rattle.types.proofs.conversion.automatically_converts_to.Goals as goal
 
 pub returns-then-from-ge-COUNT : goal.returns-then-from-ge-COUNT

@@ -1,6 +1,5 @@
 -- `combine_by` meets its contract, by the rule of the table. Assumes nothing.
 use Rattle.types.proofs.Combinations.{in_table, reads_nothing, reads-left, reads-right}
-use borrow.Author.Rules.{rules}
 use Rattle.types.proofs.conversion.combine_by.Goals as goal
 
 pub bounds-table-i : goal.bounds-table-i

@@ -4,7 +4,6 @@ use mathlib.Core.Path.{◌∙◌}
 use borrow.Author.Tests.{lt-ltb, le-ltb}
 use Rattle.types.specs.Conversion.{agreed, consensus_of}
 use Rattle.types.proofs.Agreeing.{base_agrees}
-use borrow.Author.Rules.{rules}
 use Rattle.types.proofs.conversion.consensus_with.Goals as goal
 
 pub returns-then-base-ge-COUNT : goal.returns-then-base-ge-COUNT

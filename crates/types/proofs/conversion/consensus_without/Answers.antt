@@ -7,7 +7,6 @@ use Rattle.types.specs.TypePaper.{leaf_paper}
 use Rattle.types.specs.Conversion.{agreed, consensus_of}
 use Rattle.types.proofs.TypeCodes.{leaf-some, leaf-none}
 use Rattle.types.proofs.Agreeing.{first-none, first-without, first-agrees}
-use borrow.Author.Rules.{rules}
 use Rattle.types.proofs.conversion.consensus_without.Goals as goal
 
 pub returns-then-known-components : goal.returns-then-known-components

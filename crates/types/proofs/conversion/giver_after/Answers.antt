@@ -1,6 +1,5 @@
 -- `giver_after` meets its contract, by the two sides. Assumes nothing.
 use mathlib.Core.Path.{refl}
-use borrow.Author.Rules.{rules}
 use Rattle.types.proofs.conversion.giver_after.Goals as goal
 
 pub returns-in-Left : goal.returns-in-Left

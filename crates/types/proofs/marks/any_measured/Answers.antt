@@ -1,10 +1,7 @@
 -- `any_measured` meets its contract. The loop's invariant: whether some operand from here on is measured is whether any is.
 -- Assumes nothing.
-use Prim.Native.Nat.{◌-◌, ◌≤◌}
-use mathlib.Core.Path.{◌≡◌, refl}
+use mathlib.Core.Path.{refl}
 use native.Mathlib.Omega.{arith}
-use lib.ListN.{length, drop}
-use Rattle.types.specs.Operand.{any_mark}
 use Rattle.types.proofs.Operands.{mark-here, mark-later, mark-none}
 use Rattle.types.proofs.marks.any_measured.Goals as goal
 

@@ -1,6 +1,5 @@
 -- `code_of` meets its contract: a case for each kind of type.
 -- Assumes nothing.
-use borrow.Author.Rules.{rules}
 use Rattle.types.proofs.type_code.code_of.Goals as goal
 
 pub returns-in-Value : goal.returns-in-Value

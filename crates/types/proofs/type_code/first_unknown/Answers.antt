@@ -1,11 +1,7 @@
 -- `first_unknown` meets its contract. The loop's invariant: the codes passed, and what the search finds from here on, make what it
 -- finds. Assumes nothing.
-use Prim.Native.Nat.{◌+◌, ◌-◌, ◌≤◌}
-use mathlib.Core.Path.{◌≡◌}
 use native.Mathlib.Nat.{zero-add}
 use native.Mathlib.Omega.{arith}
-use lib.ListN.{length, drop}
-use Rattle.types.specs.Domain.{first_unknown}
 use Rattle.types.proofs.Codes.{unknown-here, unknown-later, unknown-none}
 use Rattle.types.proofs.type_code.first_unknown.Goals as goal
 

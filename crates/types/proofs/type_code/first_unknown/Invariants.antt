@@ -2,11 +2,8 @@
 -- finds. Assumes nothing.
 use Prim.Native.Nat.{◌+◌, ◌-◌, ◌≤◌}
 use mathlib.Core.Path.{◌≡◌}
-use native.Mathlib.Nat.{zero-add}
-use native.Mathlib.Omega.{arith}
 use lib.ListN.{length, drop}
 use Rattle.types.specs.Domain.{first_unknown}
-use Rattle.types.proofs.Codes.{unknown-here, unknown-later, unknown-none}
 use Rattle.types.proofs.type_code.first_unknown.Given as goal
 
 abbrev pub invariant-loop-i : goal.invariant-loop-i

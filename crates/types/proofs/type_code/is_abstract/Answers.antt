@@ -5,7 +5,6 @@ use borrow.Author.Tests.{lt-ltb, le-ltb}
 use Rattle.types.specs.Domain.{is_abstract}
 use Rattle.types.specs.TypePaper.{leaf_paper}
 use Rattle.types.proofs.TypeCodes.{leaf-some, leaf-none}
-use borrow.Author.Rules.{rules}
 use Rattle.types.proofs.type_code.is_abstract.Goals as goal
 
 pub returns-in_default : goal.returns-in_default

@@ -2,7 +2,6 @@
 -- Assumes nothing.
 use borrow.Author.Tests.{lt-ltb, le-ltb, le-leb, lt-leb}
 use Rattle.types.specs.TypeCode.{predeclared_code}
-use borrow.Author.Rules.{rules}
 use Rattle.types.proofs.type_code.predeclared_code.Goals as goal
 
 pub returns-then-k-ge-COUNT : goal.returns-then-k-ge-COUNT

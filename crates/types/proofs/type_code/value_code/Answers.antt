@@ -2,7 +2,6 @@
 -- Assumes nothing.
 use borrow.Author.Tests.{lt-ltb, le-ltb}
 use Rattle.types.specs.TypeCode.{value_code}
-use borrow.Author.Rules.{rules}
 use Rattle.types.proofs.type_code.value_code.Goals as goal
 
 pub returns-then-k-ge-COUNT : goal.returns-then-k-ge-COUNT

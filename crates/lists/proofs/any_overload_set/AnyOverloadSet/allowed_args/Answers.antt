@@ -1,6 +1,5 @@
 -- `AnyOverloadSet::allowed_args` meets its contract: each kind by its own function.
 -- Assumes nothing.
-use borrow.Author.Rules.{rules}
 use Rattle.lists.proofs.any_overload_set.AnyOverloadSet.allowed_args.Goals as goal
 
 pub returns-in-Regular : goal.returns-in-Regular

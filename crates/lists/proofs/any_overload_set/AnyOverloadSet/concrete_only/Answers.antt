@@ -2,7 +2,6 @@
 -- Assumes nothing.
 use mathlib.Core.Path.{ap, ◌∙◌}
 use Rattle.lists.specs.AnyOverloadSet.{of_regular, of_list}
-use borrow.Author.Rules.{rules}
 use Rattle.lists.proofs.any_overload_set.AnyOverloadSet.concrete_only.Goals as goal
 
 pub returns-in-Regular : goal.returns-in-Regular

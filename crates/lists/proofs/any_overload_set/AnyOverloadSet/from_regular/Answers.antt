@@ -3,7 +3,6 @@
 use mathlib.Core.Path.{sym, ap, ◌∙◌}
 use Rattle.scalars.specs.Paper.{verdict_paper}
 use Rattle.regular.specs.Regular.{checked_regular}
-use borrow.Author.Rules.{rules}
 use Rattle.lists.proofs.any_overload_set.AnyOverloadSet.from_regular.Goals as goal
 
 pub returns-in-Accepted : goal.returns-in-Accepted

@@ -1,6 +1,5 @@
 -- `AnyOverloadSet::max_arguments` meets its contract: each kind by its own function.
 -- Assumes nothing.
-use borrow.Author.Rules.{rules}
 use Rattle.lists.proofs.any_overload_set.AnyOverloadSet.max_arguments.Goals as goal
 
 pub returns-in-Regular : goal.returns-in-Regular

@@ -1,6 +1,5 @@
 -- `AnyOverloadSet::min_arguments` meets its contract: each kind by its own function.
 -- Assumes nothing.
-use borrow.Author.Rules.{rules}
 use Rattle.lists.proofs.any_overload_set.AnyOverloadSet.min_arguments.Goals as goal
 
 pub returns-in-Regular : goal.returns-in-Regular

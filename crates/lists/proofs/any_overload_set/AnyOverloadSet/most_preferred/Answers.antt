@@ -2,7 +2,6 @@
 -- Assumes nothing.
 use mathlib.Core.Path.{ap, ◌∙◌}
 use Rattle.lists.specs.AnyOverloadSet.{alone}
-use borrow.Author.Rules.{rules}
 use Rattle.lists.proofs.any_overload_set.AnyOverloadSet.most_preferred.Goals as goal
 
 pub returns-in-Regular : goal.returns-in-Regular

@@ -1,5 +1,4 @@
 -- `List::arg` meets its contract: a type above 180 is refused, and `step` does the rest. Assumes nothing.
-use borrow.Author.Rules.{rules}
 use borrow.Author.Tests.{lt-leb, le-leb}
 use Rattle.lists.specs.List.{list_arg}
 use Rattle.lists.proofs.list.List.arg.Goals as goal

@@ -7,7 +7,7 @@ use Prim.Native.Nat.{◌^◌}
 use lib.Dec.{ltb}
 use lib.ListN.{length}
 use borrow.Author.Rules.{rules}
-use borrow.Author.Tests.{not-true, not-false, le-leb, lt-leb}
+use borrow.Author.Tests.{le-leb, lt-leb}
 use Rattle.scalars.specs.Mask.{every, padded}
 use Rattle.rules.specs.Rule.{blank_rule, signature_of, rule_of, known_rule, short_rule}
 use Rattle.lists.specs.List.{most_rules, held, signatures, clean_list, accepted_list}

@@ -1,7 +1,6 @@
 -- `List::from_rules` meets its contract: `checked` tests the List of the first n rules with a full mask. Assumes nothing.
 use mathlib.Core.Path.{ap, ◌∙◌}
 use Prim.Native.Nat.{ℕ}
-use borrow.Author.Rules.{rules}
 use Rattle.lists.specs.List.{from_rules, checked_list}
 use Rattle.lists.proofs.list.List.from_rules.Goals as goal
 

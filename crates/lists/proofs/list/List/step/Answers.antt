@@ -1,7 +1,6 @@
 -- `List::step` meets its contract: `filter` keeps the members of the clean List that pass. Assumes nothing.
 use mathlib.Core.Path.{ap, ◌∙◌}
 use Prim.Native.Nat.{ℕ}
-use borrow.Author.Rules.{rules}
 use Rattle.lists.specs.List.{list_step, kept, accepted_list, no_list_values}
 use Rattle.lists.specs.declared.list.List.{List}
 use Rattle.lists.proofs.Verdicts.{on-refused, on-accepted, tested-list}

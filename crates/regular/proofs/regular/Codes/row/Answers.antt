@@ -2,11 +2,10 @@
 -- whole row. Assumes nothing.
 use mathlib.Core.Path.{◌≡◌, refl, ap, ap₂}
 use mathlib.Core.List.{List, [], map}
-use Prim.Native.Nat.{ℕ, ◌+◌, ◌^◌, ◌<◌}
+use Prim.Native.Nat.{ℕ, ◌<◌}
 use native.Mathlib.Omega.{arith}
 use lib.Dec.{lit≤}
 use lib.ListN.{length, length-set, length-map}
-use lib.Seq.{sets}
 use Rattle.scalars.specs.Mask.{bits}
 use Rattle.scalars.specs.Domain.{scalar_count}
 use Rattle.types.specs.TypeCode.{type_code}
@@ -14,7 +13,6 @@ use Rattle.rules.specs.Listing.{most_listed}
 use Rattle.regular.specs.private.Tested.{put}
 use Rattle.scalars.proofs.Walks.{WalkedBits, walked-bits, ended-bits}
 use Rattle.scalars.proofs.Fills.{fill_step, fill_end}
-use borrow.Author.Rules.{rules}
 use Rattle.regular.proofs.regular.Codes.row.Goals as goal
 
 -- the lowest scalar, its bit, and the scalars that are left

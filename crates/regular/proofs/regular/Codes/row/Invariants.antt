@@ -1,20 +1,14 @@
 -- `Codes::row` meets its contract. The loop's invariant: the types put so far, followed by those of the scalars that are left, are the
 -- whole row. Assumes nothing.
-use mathlib.Core.Path.{◌≡◌, refl, ap, ap₂}
-use mathlib.Core.List.{List, [], map}
-use Prim.Native.Nat.{ℕ, ◌+◌, ◌^◌, ◌<◌}
-use native.Mathlib.Omega.{arith}
-use lib.Dec.{lit≤}
-use lib.ListN.{length, length-set, length-map}
+use mathlib.Core.Path.{◌≡◌}
+use mathlib.Core.List.{map}
+use Prim.Native.Nat.{◌+◌, ◌^◌, ◌<◌}
+use lib.ListN.{length}
 use lib.Seq.{sets}
 use Rattle.scalars.specs.Mask.{bits}
 use Rattle.scalars.specs.Domain.{scalar_count}
 use Rattle.types.specs.TypeCode.{type_code}
 use Rattle.rules.specs.Listing.{most_listed}
-use Rattle.regular.specs.private.Tested.{put}
-use Rattle.scalars.proofs.Walks.{WalkedBits, walked-bits, ended-bits}
-use Rattle.scalars.proofs.Fills.{fill_step, fill_end}
-use borrow.Author.Rules.{rules}
 use Rattle.regular.proofs.regular.Codes.row.Given as goal
 
 abbrev pub invariant-loop-codes : goal.invariant-loop-codes

@@ -2,7 +2,6 @@
 -- Assumes nothing.
 use mathlib.Core.Path.{sym}
 use Rattle.regular.specs.private.Tested.{concluded_for}
-use borrow.Author.Rules.{rules}
 use Rattle.regular.proofs.regular.ConclusionRule.conclude.Goals as goal
 
 pub returns-in-ArgumentType : goal.returns-in-ArgumentType

@@ -11,7 +11,6 @@ use Rattle.scalars.specs.Paper.{accepted}
 use Rattle.regular.proofs.Regulars.{accepted-known}
 use Rattle.regular.proofs.Listings.{codes-few, found-count, found-codes}
 use Rattle.scalars.specs.Paper.{verdict_paper}
-use borrow.Author.Rules.{rules}
 use Rattle.regular.proofs.regular.Regular.allowed_args.Goals as goal
 
 pub returns-in-Refused : goal.returns-in-Refused

@@ -4,7 +4,6 @@ use mathlib.Core.Path.{sym, ap, ◌∙◌}
 use borrow.Author.Tests.{le-ltb, lt-ltb, le-leb, lt-leb}
 use Rattle.regular.specs.Regular.{regular_arg}
 use Rattle.scalars.specs.Paper.{verdict_paper}
-use borrow.Author.Rules.{rules}
 use Rattle.regular.proofs.regular.Regular.arg.Goals as goal
 
 pub returns-then-t-gt-LAST_CODE : goal.returns-then-t-gt-LAST_CODE

@@ -1,17 +1,12 @@
 -- `Regular::codes` meets its contract. The loop's invariant: the types found so far, followed by those of the constructors that are
 -- left, are all of them. Assumes nothing.
-use mathlib.Core.List.{[]}
-use Prim.Native.Nat.{◌^◌, ◌<◌}
 use native.Mathlib.Omega.{arith}
 use lib.Dec.{lit≤}
-use Rattle.scalars.specs.Mask.{bits}
-use Rattle.scalars.specs.Domain.{scalar_count}
 use Rattle.types.specs.Domain.{constructor_count}
 use Rattle.regular.specs.Regular.{codes_of}
 use Rattle.scalars.proofs.Walks.{WalkedBits, walked-bits, ended-bits}
 use Rattle.regular.proofs.Regulars.{pairs-most}
-use Rattle.regular.proofs.Puts.{Rows, rows_start, rows-room, rows_next, rows_end}
-use borrow.Author.Rules.{rules}
+use Rattle.regular.proofs.Puts.{rows_start, rows-room, rows_next, rows_end}
 use Rattle.regular.proofs.regular.Regular.codes.Goals as goal
 
 -- the lowest constructor, its bit, and the constructors that are left

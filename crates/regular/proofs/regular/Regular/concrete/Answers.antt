@@ -4,7 +4,6 @@ use mathlib.Core.Path.{ap}
 use Prim.Native.Nat.{ℕ}
 use Rattle.regular.specs.SetPaper.{set_paper}
 use Rattle.regular.specs.Regular.{concrete_set}
-use borrow.Author.Rules.{rules}
 use Rattle.regular.proofs.regular.Regular.concrete.Goals as goal
 
 pub returns : goal.returns

@@ -3,7 +3,6 @@
 use mathlib.Core.Path.{sym, ap, ◌∙◌}
 use Rattle.regular.specs.Regular.{regular_concrete}
 use Rattle.scalars.specs.Paper.{verdict_paper}
-use borrow.Author.Rules.{rules}
 use Rattle.regular.proofs.regular.Regular.concrete_only.Goals as goal
 
 pub returns-in-Refused : goal.returns-in-Refused

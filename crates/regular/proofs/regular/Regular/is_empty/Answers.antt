@@ -4,7 +4,6 @@ use mathlib.Core.Path.{sym, ap, ◌∙◌}
 use Rattle.regular.specs.Regular.{regular_empty}
 use Rattle.regular.proofs.Regulars.{accepted-known, empty_yes, empty-no}
 use Rattle.scalars.specs.Paper.{verdict_paper}
-use borrow.Author.Rules.{rules}
 use Rattle.regular.proofs.regular.Regular.is_empty.Goals as goal
 
 pub returns-in-Refused : goal.returns-in-Refused

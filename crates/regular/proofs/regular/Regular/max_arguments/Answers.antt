@@ -4,7 +4,6 @@ use mathlib.Core.Path.{sym, ap, ◌∙◌}
 use Rattle.regular.specs.Regular.{regular_count}
 use Rattle.regular.proofs.Regulars.{accepted-known, count_none, count-some}
 use Rattle.scalars.specs.Paper.{verdict_paper}
-use borrow.Author.Rules.{rules}
 use Rattle.regular.proofs.regular.Regular.max_arguments.Goals as goal
 
 pub returns-in-Refused : goal.returns-in-Refused

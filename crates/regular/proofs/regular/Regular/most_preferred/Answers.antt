@@ -12,7 +12,6 @@ use Rattle.regular.specs.Regular.{regular_verdict, regular_preferred, preferred_
 use Rattle.regular.specs.declared.regular.Regular.{Regular}
 use Rattle.regular.specs.private.Tested.{Known}
 use Rattle.regular.proofs.Regulars.{accepted-known, preferred-none, preferred-one, preferred_several, scalar-found}
-use borrow.Author.Rules.{rules}
 use Rattle.regular.proofs.regular.Regular.most_preferred.Goals as goal
 
 among : (s : Regular) → regular_verdict s ≡ accepted [] → regular_preferred s ≡ preferred_among s (bits constructor_count s.constructors.0) (bits scalar_count s.scalars.0)

@@ -5,7 +5,6 @@ use Prim.Native.Nat.{ℕ}
 use lib.Bits.{bit_and}
 use Rattle.regular.specs.SetPaper.{set_paper}
 use Rattle.regular.specs.Regular.{regular_of, narrowed}
-use borrow.Author.Rules.{rules}
 use Rattle.regular.proofs.regular.Regular.narrow.Goals as goal
 
 pub returns-in-Shape : goal.returns-in-Shape

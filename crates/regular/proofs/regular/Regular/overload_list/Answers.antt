@@ -5,7 +5,6 @@ use Rattle.regular.specs.Regular.{regular_listing}
 use Rattle.regular.specs.private.Tested.{concluded_listing}
 use Rattle.regular.proofs.Regulars.{accepted-known}
 use Rattle.scalars.specs.Paper.{verdict_paper}
-use borrow.Author.Rules.{rules}
 use Rattle.regular.proofs.regular.Regular.overload_list.Goals as goal
 
 pub returns-in-Refused : goal.returns-in-Refused

@@ -1,11 +1,10 @@
 -- `Regular::rule` meets its contract: the type of the size and the scalar, then its conclusion.
 -- Assumes nothing.
-use mathlib.Core.Path.{◌≡◌, sym, ap, ◌∙◌}
+use mathlib.Core.Path.{sym, ap, ◌∙◌}
 use mathlib.Core.List.{List}
 use Prim.Native.Nat.{ℕ}
 use Rattle.scalars.specs.Paper.{accepted}
 use Rattle.types.specs.TypePaper.{code_paper}
-use Rattle.types.specs.declared.type_code.CodeAnswer.{CodeAnswer}
 use Rattle.rules.specs.Rule.{rule_of}
 use Rattle.rules.specs.RulePaper.{rule_values}
 use Rattle.rules.specs.declared.rule.Rule.{Rule}
@@ -13,7 +12,6 @@ use Rattle.rules.proofs.Records.{uniform}
 use Rattle.regular.specs.Regular.{rule_from}
 use Rattle.regular.specs.private.Tested.{sized_rule}
 use Rattle.regular.proofs.Conclusions.{sized-from}
-use borrow.Author.Rules.{rules}
 use Rattle.regular.proofs.regular.Regular.rule.Goals as goal
 
 pub returns-in-Refused : goal.returns-in-Refused

@@ -3,7 +3,6 @@
 use mathlib.Core.Path.{sym}
 use native.Mathlib.Omega.{arith}
 use Rattle.rules.proofs.Rules.{argument-here, argument-past, argument_fifth}
-use borrow.Author.Rules.{rules}
 use Rattle.rules.proofs.rule.Rule.argument.Goals as goal
 
 pub returns-then-n-i : goal.returns-then-n-i

@@ -1,12 +1,11 @@
 -- `Rule::checked` meets its contract: 7 before 3.
 -- Assumes nothing.
 use mathlib.Core.Path.{sym, ap, ◌∙◌}
-use borrow.Author.Tests.{le-leb, lt-leb, not-true, not-false}
+use borrow.Author.Tests.{le-leb, lt-leb}
 use Rattle.rules.specs.Rule.{checked_rule, short_rule}
 use Rattle.scalars.specs.Paper.{accepted}
 use Rattle.rules.specs.RulePaper.{rule_values}
 use Rattle.rules.specs.declared.rule.Rule.{Rule}
-use borrow.Author.Rules.{rules}
 use Rattle.rules.proofs.rule.Rule.checked.Goals as goal
 
 pub returns-then-not-known : goal.returns-then-not-known

@@ -3,7 +3,6 @@
 use Rattle.rules.specs.Rule.{rule_of}
 use Rattle.rules.proofs.Rules.{argument-held, count_of}
 use lib.Dec.{lit≤}
-use borrow.Author.Rules.{rules}
 use Rattle.rules.proofs.rule.Rule.cleaned.Goals as goal
 
 pub returns : goal.returns

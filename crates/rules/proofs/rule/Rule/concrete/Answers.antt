@@ -2,7 +2,6 @@
 -- Assumes nothing.
 use mathlib.Core.Path.{sym, ◌∙◌}
 use Rattle.rules.proofs.Rules.{concrete-four}
-use borrow.Author.Rules.{rules}
 use Rattle.rules.proofs.rule.Rule.concrete.Goals as goal
 
 pub returns-then-abstract_at : goal.returns-then-abstract_at

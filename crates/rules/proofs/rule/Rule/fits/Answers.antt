@@ -4,7 +4,6 @@ use mathlib.Core.Path.{sym, ap, ◌∙◌}
 use Rattle.rules.specs.Signature.{fits_by}
 use Rattle.rules.specs.declared.rule.Part.TheVariants.{Shape, Number}
 use Rattle.rules.proofs.Rules.{fits-argument}
-use borrow.Author.Rules.{rules}
 use Rattle.rules.proofs.rule.Rule.fits.Goals as goal
 
 pub returns-in-Shape : goal.returns-in-Shape

@@ -1,9 +1,7 @@
 -- `Rule::known` meets its contract: each argument that is there, then the result.
 -- Assumes nothing.
 use mathlib.Core.Path.{sym, ◌∙◌}
-use borrow.Author.Tests.{not-true, not-false}
 use Rattle.rules.proofs.Rules.{known-four}
-use borrow.Author.Rules.{rules}
 use Rattle.rules.proofs.rule.Rule.known.Goals as goal
 
 pub returns-then-not-known_at : goal.returns-then-not-known_at

@@ -1,7 +1,6 @@
 -- `Rule::len` meets its contract: the four fields hold as many arguments as the count says, or four.
 -- Assumes nothing.
 use mathlib.Core.Path.{sym, ◌∙◌}
-use borrow.Author.Rules.{rules}
 use Rattle.rules.proofs.Records.{arguments-many}
 use Rattle.rules.proofs.rule.Rule.len.Goals as goal
 

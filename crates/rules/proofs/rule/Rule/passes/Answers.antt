@@ -1,6 +1,5 @@
 -- `Rule::passes` meets its contract: a case for each test.
 -- Assumes nothing.
-use borrow.Author.Rules.{rules}
 use Rattle.rules.proofs.rule.Rule.passes.Goals as goal
 
 pub returns-in-Argument : goal.returns-in-Argument

@@ -1,6 +1,5 @@
 -- `ScalarSet::contains` meets its contract: a scalar's bit, where the scalar is known.
 -- Assumes nothing.
-use borrow.Author.Rules.{rules}
 use borrow.Author.Tests.{lt-ltb, le-ltb}
 use Rattle.scalars.specs.Scalar.{member}
 use Rattle.scalars.proofs.scalar_set.ScalarSet.contains.Goals as goal

@@ -4,7 +4,6 @@ use mathlib.Core.Path.{◌∙◌}
 use Rattle.scalars.specs.Domain.{converts}
 use Rattle.scalars.specs.Scalar.{convertible_from}
 use Rattle.scalars.proofs.Scalars.{own}
-use borrow.Author.Rules.{rules}
 use Rattle.scalars.proofs.scalar_set.ScalarSet.convertible_from.Goals as goal
 
 pub returns-then-k : goal.returns-then-k

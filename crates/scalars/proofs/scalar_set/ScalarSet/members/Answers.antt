@@ -8,7 +8,6 @@ use borrow.Author.Tests.{lt-ltb, le-ltb}
 use Rattle.scalars.specs.Domain.{scalar_count}
 use Rattle.scalars.specs.OneBits.{members_within, listed}
 use Rattle.scalars.proofs.Bits.{bits-within}
-use borrow.Author.Rules.{rules}
 use Rattle.scalars.proofs.scalar_set.ScalarSet.members.Goals as goal
 
 pub returns-then-mask : goal.returns-then-mask

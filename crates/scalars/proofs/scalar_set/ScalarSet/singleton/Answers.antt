@@ -3,7 +3,6 @@
 use borrow.Author.Tests.{le-ltb}
 use Rattle.scalars.specs.Scalar.{singleton_of}
 use Rattle.scalars.proofs.Scalars.{single}
-use borrow.Author.Rules.{rules}
 use Rattle.scalars.proofs.scalar_set.ScalarSet.singleton.Goals as goal
 
 pub returns-then-k-ge-COUNT : goal.returns-then-k-ge-COUNT

@@ -1,9 +1,6 @@
 -- `Constructor::size` meets its contract: an unknown constructor is refused.
 -- Assumes nothing.
 use mathlib.Core.Path.{ap}
-use mathlib.Core.List.{List}
-use Prim.Native.Nat.{ℕ}
-use borrow.Author.Rules.{rules}
 use borrow.Author.Tests.{lt-ltb, le-ltb}
 use Rattle.scalars.specs.Paper.{accepted}
 use Rattle.types.specs.Constructor.{constructor_size}

@@ -8,7 +8,6 @@ use borrow.Author.Tests.{lt-ltb, le-ltb}
 use Rattle.scalars.specs.OneBits.{members_within, listed}
 use Rattle.types.specs.Domain.{constructor_count}
 use Rattle.scalars.proofs.Bits.{bits-within}
-use borrow.Author.Rules.{rules}
 use Rattle.types.proofs.constructor_set.ConstructorSet.members.Goals as goal
 
 pub returns-then-mask : goal.returns-then-mask

@@ -4,7 +4,6 @@ use native.Mathlib.Omega.{arith}
 use borrow.Author.Tests.{lt-ltb, le-ltb}
 use Rattle.types.specs.Constructor.{singleton_of_code}
 use Rattle.scalars.proofs.Masks.{bit_is}
-use borrow.Author.Rules.{rules}
 use Rattle.types.proofs.constructor_set.ConstructorSet.singleton.Goals as goal
 
 pub returns-then-code-ge-VALUES : goal.returns-then-code-ge-VALUES

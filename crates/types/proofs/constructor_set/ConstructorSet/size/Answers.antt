@@ -6,13 +6,12 @@ use Prim.Native.Nat.{ℕ, ◌<◌}
 use mathlib.Core.Path.{subst⁻¹}
 use native.Mathlib.Omega.{arith}
 use lib.ListN.{get_or}
-use borrow.Author.Tests.{le-ltb, not-true, not-false}
+use borrow.Author.Tests.{le-ltb}
 use Rattle.scalars.specs.Mask.{bits}
 use Rattle.types.specs.Domain.{constructor_count}
 use Rattle.types.specs.Constructor.{set_size, sizes}
 use Rattle.scalars.specs.Paper.{accepted}
 use Rattle.types.proofs.Constructors.{number-below, size-one, size_several}
-use borrow.Author.Rules.{rules}
 use Rattle.types.proofs.constructor_set.ConstructorSet.size.Goals as goal
 
 pub returns-then-mask : goal.returns-then-mask

@@ -7,7 +7,6 @@ use native.Mathlib.Omega.{arith}
 use Rattle.scalars.specs.Paper.{accepted}
 use Rattle.types.specs.Constructor.{constructor_of}
 use Rattle.types.proofs.Constructors.{inside}
-use borrow.Author.Rules.{rules}
 use Rattle.types.proofs.constructor_set.ConstructorSize.constructor.Goals as goal
 
 columns : (c : goal.Else-outside-3) → (2 ≤ c.in-Matrix.columns) × (c.in-Matrix.columns ≤ 4)

@@ -3,7 +3,6 @@
 use mathlib.Core.Path.{sym, ap, ◌∙◌}
 use Rattle.types.specs.TypePaper.{constructor_paper}
 use Rattle.types.specs.Constructor.{inner_of}
-use borrow.Author.Rules.{rules}
 use Rattle.types.proofs.constructor_set.ConstructorSize.to_inner.Goals as goal
 
 pub returns-in-Refused : goal.returns-in-Refused

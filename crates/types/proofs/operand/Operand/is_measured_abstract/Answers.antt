@@ -1,7 +1,6 @@
 -- `is_measured_abstract` meets its contract.
 -- Assumes nothing.
 use borrow.Author.Tests.{not-true, not-false}
-use borrow.Author.Rules.{rules}
 use Rattle.types.proofs.operand.Operand.is_measured_abstract.Goals as goal
 
 pub returns-then-not-self : goal.returns-then-not-self
