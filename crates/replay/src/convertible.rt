@@ -20,12 +20,10 @@ pub fn agrees(record: &[u8]) -> bool {
 
 // Whether the scalar converts to exactly those that the mask holds, asked one by one.
 fn each_agrees(from: u8, mask: usize) -> bool {
-    let mut to: u8 = 0;
-    while to < Scalar::COUNT {
+    for to in 0..Scalar::COUNT {
         if converts(from, to) != ((mask >> to) % 2 == 1) {
             return false;
         }
-        to += 1;
     }
     true
 }

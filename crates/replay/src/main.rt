@@ -6,6 +6,8 @@
 // `stored_lists` names them all; `boundary` and `limits` hold the documents' answers in place of the crate's, and `givers` document 02's. The
 // crate knows no texts: those of `texts` are by a reader and a writer of the comparison's own. docs/STORED.md says what the records hold.
 
+#![tactic(auto)]
+
 mod agreement;
 mod allowed;
 mod answers;
@@ -29,45 +31,48 @@ mod texts;
 mod typings;
 mod walk;
 
+use std::io;
+use std::io::Print;
+use std::rt::Files;
 use stored_lists::StoredList;
 use walk::replay;
 
-fn main() {
-    scalars();
-    sets();
-    calls();
-    expressions();
+fn main(rt: HostRuntime) -> io::Result<()> {
+    scalars(&rt)?;
+    sets(&rt)?;
+    calls(&rt)?;
+    expressions(&rt)
 }
 
 // Scalars: their combinations, conversions, named sets and consensus.
-fn scalars() {
-    replay(StoredList::Combine, b"combine");
-    replay(StoredList::Convertible, b"convertible");
-    replay(StoredList::NamedSets, b"named_sets");
-    replay(StoredList::Consensus, b"consensus");
-    replay(StoredList::Consensus, b"givers");
+fn scalars(rt: &(impl Files + Print)) -> io::Result<()> {
+    replay(rt, StoredList::Combine, "combine")?;
+    replay(rt, StoredList::Convertible, "convertible")?;
+    replay(rt, StoredList::NamedSets, "named_sets")?;
+    replay(rt, StoredList::Consensus, "consensus")?;
+    replay(rt, StoredList::Consensus, "givers")
 }
 
 // Sets made by hand.
-fn sets() {
-    replay(StoredList::HandSets, b"handsets");
-    replay(StoredList::Boundary, b"boundary");
+fn sets(rt: &(impl Files + Print)) -> io::Result<()> {
+    replay(rt, StoredList::HandSets, "handsets")?;
+    replay(rt, StoredList::Boundary, "boundary")
 }
 
 // Calls of the functions.
-fn calls() {
-    replay(StoredList::Calls, b"calls");
-    replay(StoredList::Calls, b"measured_calls");
-    replay(StoredList::Refused, b"refused");
-    replay(StoredList::Refused, b"measured_refused");
-    replay(StoredList::Allowed, b"allowed");
+fn calls(rt: &(impl Files + Print)) -> io::Result<()> {
+    replay(rt, StoredList::Calls, "calls")?;
+    replay(rt, StoredList::Calls, "measured_calls")?;
+    replay(rt, StoredList::Refused, "refused")?;
+    replay(rt, StoredList::Refused, "measured_refused")?;
+    replay(rt, StoredList::Allowed, "allowed")
 }
 
 // Expressions, and their texts.
-fn expressions() {
-    replay(StoredList::Expressions, b"worksheets");
-    replay(StoredList::Expressions, b"measured_worksheets");
-    replay(StoredList::Expressions, b"room");
-    replay(StoredList::Expressions, b"limits");
-    replay(StoredList::Texts, b"texts");
+fn expressions(rt: &(impl Files + Print)) -> io::Result<()> {
+    replay(rt, StoredList::Expressions, "worksheets")?;
+    replay(rt, StoredList::Expressions, "measured_worksheets")?;
+    replay(rt, StoredList::Expressions, "room")?;
+    replay(rt, StoredList::Expressions, "limits")?;
+    replay(rt, StoredList::Texts, "texts")
 }

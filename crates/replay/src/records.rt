@@ -1,7 +1,11 @@
 // A file of stored answers, and its records: each is two bytes of length, the low one first, and that many bytes.
 
-ghost use Rattle.std.specs.Prelude.{◌≡◌, ◌≤◌, length};
-ghost use Rattle.io.specs.Counts.{IsPrefixLen};
+ghost use Rattle.std.specs.Prelude.{◌≡◌, ◌≤◌, length, take, IfOk};
+
+use std::fs::File;
+use std::io;
+use std::io::Read;
+use std::rt::Files;
 
 // A part of a file, from one offset up to another.
 #[derive(Clone, Copy)]
@@ -19,19 +23,32 @@ pub fn room() -> [u8; 262144]
 
 // Puts the file at the start of `into` and answers its length: 0 where it is missing, cannot be read, or leaves no byte of `into`
 // over.
-pub fn load(path: &[u8], into: &mut [u8]) -> usize
-    ensures { IsPrefixLen result into.new }
+pub fn load(files: &impl Files, path: &str, into: &mut [u8]) -> usize
+    ensures { (result ≤ length into.new) × (result ≡ length (take result into.new)) }
 {
-    let fd = os::open_read(path);
-    if fd < 0 {
-        return 0;
-    }
-    let n = io::read_full(fd, into);
-    libc::close(fd);
+    let n = match File::open(files, path) {
+        Ok(mut file) => read_full(&mut file, into).unwrap_or(0),
+        Err(_) => 0,
+    };
     if n == into.len() {
         return 0;
     }
     n
+}
+
+// Reads until `into` is full or the input ends, and answers how many bytes were put at the start of `into`.
+fn read_full(input: &mut impl Read, into: &mut [u8]) -> io::Result<usize>
+    ensures { IfOk result (λ n. n ≤ length into.new) }
+{
+    let mut done = 0;
+    for _ in 0..u64::MAX {
+        let n = input.read(&mut into[done..])?;
+        if n == 0 {
+            break;
+        }
+        done += n;
+    }
+    Ok(done)
 }
 
 // Where the bytes of the record at `at` stand. They start past `at`, but where the file is cut short: there the answer is 0 to 0.

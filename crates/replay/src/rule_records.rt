@@ -29,13 +29,11 @@ pub fn rules_agree(rules: [Rule; LONGEST_LISTING], n: usize, bytes: &[u8]) -> bo
     if bytes.len() != RULE_BYTES * n {
         return false;
     }
-    let mut k: usize = 0;
-    while k < n {
+    for k in 0..n {
         let rule = rules[k];
         if !same(rule, rule_at(bytes, RULE_BYTES * k)) {
             return false;
         }
-        k += 1;
     }
     true
 }

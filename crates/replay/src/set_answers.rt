@@ -113,12 +113,10 @@ fn codes_agree(codes: [u8; LONGEST_LISTING], n: usize, stored: &[u8]) -> bool {
     if stored.len() != n {
         return false;
     }
-    let mut k: usize = 0;
-    while k < n {
+    for k in 0..n {
         if codes[k] != stored[k] {
             return false;
         }
-        k += 1;
     }
     true
 }

@@ -11,10 +11,8 @@ use scalars::Verdict;
 pub fn stepped(start: AnyAnswer, steps: &[u8]) -> AnyAnswer {
     let n = steps.len() / 2;
     let mut here = start;
-    let mut k: usize = 0;
-    while k < n {
+    for k in 0..n {
         here = step(here, steps[2 * k], steps[2 * k + 1]);
-        k += 1;
     }
     here
 }

@@ -1,6 +1,7 @@
 // How many answers of a list were compared, how many differ, and how many sets of the list were expanded.
 
-use std::num::wrapping_add_u64;
+use std::io;
+use std::io::Print;
 
 #[derive(Clone, Copy)]
 pub struct Tally {
@@ -26,7 +27,7 @@ impl Tally {
     pub fn with(self, agrees: bool) -> Tally {
         let after = if agrees { self } else { self.broken() };
         Tally {
-            compared: wrapping_add_u64(after.compared, 1),
+            compared: after.compared.wrapping_add(1),
             differ: after.differ,
             first: after.first,
             expanded: after.expanded,
@@ -39,7 +40,7 @@ impl Tally {
             compared: self.compared,
             differ: self.differ,
             first: self.first,
-            expanded: wrapping_add_u64(self.expanded, 1),
+            expanded: self.expanded.wrapping_add(1),
         }
     }
 
@@ -52,29 +53,24 @@ impl Tally {
         };
         Tally {
             compared: self.compared,
-            differ: wrapping_add_u64(self.differ, 1),
+            differ: self.differ.wrapping_add(1),
             first: first,
             expanded: self.expanded,
         }
     }
 
     // Writes the line of the list with this name.
-    pub fn print(self, name: &[u8]) {
-        io::write_all(1, name);
-        io::write_all(1, b": ");
-        io::print_decimal(1, self.compared);
-        io::write_all(1, b" compared, ");
-        io::print_decimal(1, self.differ);
-        io::write_all(1, b" differ");
+    pub fn print(self, out: &impl Print, name: &str) -> io::Result<()> {
+        print!(out;
+            "{name}: {} compared, {} differ",
+            self.compared, self.differ
+        )?;
         if self.differ != 0 {
-            io::write_all(1, b", the first at record ");
-            io::print_decimal(1, self.first);
+            print!(out; ", the first at record {}", self.first)?;
         }
         if self.expanded != 0 {
-            io::write_all(1, b", ");
-            io::print_decimal(1, self.expanded);
-            io::write_all(1, b" expanded");
+            print!(out; ", {} expanded", self.expanded)?;
         }
-        io::write_all(1, b"\n");
+        println!(out)
     }
 }

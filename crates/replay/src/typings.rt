@@ -108,13 +108,11 @@ pub fn holds(bytes: &[u8], sheet: &[u8]) -> bool {
     if bytes.len() < sheet.len() {
         return false;
     }
-    let mut k: usize = 0;
-    while k < bytes.len() {
+    for k in 0..bytes.len() {
         let expected = if k < sheet.len() { sheet[k] } else { NONE };
         if bytes[k] != expected {
             return false;
         }
-        k += 1;
     }
     true
 }

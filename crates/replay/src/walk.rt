@@ -3,13 +3,16 @@
 use crate::records::{load, room, span_at};
 use crate::stored_lists::{StoredList, agrees, expands};
 use crate::tally::Tally;
+use std::io;
+use std::io::Print;
+use std::rt::Files;
 
 // Compares the list in the file of this name, and writes what came out.
-pub fn replay(list: StoredList, name: &[u8]) {
+pub fn replay(rt: &(impl Files + Print), list: StoredList, name: &str) -> io::Result<()> {
     let mut space = room();
-    let n = load(name, &mut space);
+    let n = load(rt, name, &mut space);
     let tally = compared(list, &space[..n]);
-    tally.print(name);
+    tally.print(rt, name)
 }
 
 // The tally of the whole file. An empty one, or one that ends within a record, counts as a difference.

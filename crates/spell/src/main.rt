@@ -1,38 +1,40 @@
 // Writes the text of the expression on standard input, whose bytes nobody reads at the bench, and a newline. A refusal prints its number and
 // place instead. What is answered depends on at most the first 193 bytes of the input, and the program reads no more than 4,096.
+#![tactic(auto)]
 
 ghost use Rattle.std.specs.Prelude.{◌≤◌, length};
 
-use libc::{STDIN_FILENO, STDOUT_FILENO};
+use std::io;
+use std::io::{Print, Read};
 use text::{TextAnswer, write_text};
 
-fn main() {
-    let mut space = io::buffer();
-    let n = io::read_full(STDIN_FILENO, &mut space);
-    let mut text = io::buffer();
-    answer(&space[..n], &mut text);
+// The most bytes that are read.
+const MOST_READ: u64 = 4096;
+
+fn main(rt: HostRuntime) -> io::Result<()> {
+    let mut input = Vec::new(rt.alloc());
+    rt.stdin().take(MOST_READ).read_to_end(&mut input)?;
+    let mut text = [0; 4096];
+    answer(&rt, &input, &mut text)
 }
 
 // Writes the expression into the text and prints what came out. No text has more than 4,096 bytes, so the room always suffices.
-fn answer(input: &[u8], text: &mut [u8]) {
+fn answer(out: &impl Print, input: &[u8], text: &mut [u8]) -> io::Result<()> {
     match write_text(input, text) {
-        TextAnswer::Refused(why) => print_refusal(why.number(), why.place()),
-        TextAnswer::Made(len) => print_text(text, len),
+        TextAnswer::Refused(why) => print_refusal(out, why.number(), why.place()),
+        TextAnswer::Made(len) => print_text(out, text, len),
     }
 }
 
 // The text in the first `len` bytes of the buffer.
-fn print_text(buffer: &[u8], len: usize)
+fn print_text(out: &impl Print, buffer: &[u8], len: usize) -> io::Result<()>
     requires { len ≤ length buffer.now }
 {
-    io::write_all(STDOUT_FILENO, &buffer[..len]);
-    io::write_all(STDOUT_FILENO, b"\n");
+    out.write_all(&buffer[..len])?;
+    out.write_all(b"\n")
 }
 
 // The line of number and place.
-fn print_refusal(number: u8, place: usize) {
-    io::print_decimal(STDOUT_FILENO, number as u64);
-    io::write_all(STDOUT_FILENO, b" ");
-    io::print_decimal(STDOUT_FILENO, place as u64);
-    io::write_all(STDOUT_FILENO, b"\n");
+fn print_refusal(out: &impl Print, number: u8, place: usize) -> io::Result<()> {
+    println!(out; "{number} {place}")
 }

@@ -5,35 +5,39 @@
 // else is text. Places are offsets in the text while it is read, and offsets in the bytes that it spells afterwards. What is answered
 // depends on at most the first 4,097 bytes of the input, so the program keeps the first 65,536 and reads the rest to its end without
 // keeping it.
+#![tactic(auto)]
 
 ghost use Rattle.std.specs.Prelude.{◌≡◌, ◌≤◌, length};
-ghost use Rattle.worksheet.specs.private.Sheet.{enough_bytes};
+ghost use Rattle.worksheet.specs.private.Sheet.{enoughBytes};
 
 use expressions::MEASURED_LEAF;
-use libc::{STDIN_FILENO, STDOUT_FILENO};
 use scalars::{Refusal, UNUSED};
+use std::io;
+use std::io::{Print, Read, Stdin};
 use text::{TextAnswer, read_text};
 use worksheet::{ENOUGH_BYTES, TypeAnswer, type_expression};
+
+// The most bytes of the input that are kept.
+const MOST_KEPT: u64 = 65536;
 
 // The bytes of a line.
 const LINE: usize = 4;
 
-fn main() {
-    let mut space = io::large_buffer();
-    let n = io::read_full(STDIN_FILENO, &mut space);
-    skip_rest();
+fn main(rt: HostRuntime) -> io::Result<()> {
+    let mut input = Vec::new(rt.alloc());
+    rt.stdin().take(MOST_KEPT).read_to_end(&mut input)?;
+    skip_rest(rt.stdin())?;
     let mut sheet = room();
-    answer(&space[..n], &mut sheet);
+    answer(&rt, &input, &mut sheet)
 }
 
 // Types the input, in either form, into the sheet and prints what came out.
-fn answer(input: &[u8], sheet: &mut [u8]) {
+fn answer(out: &impl Print, input: &[u8], sheet: &mut [u8]) -> io::Result<()> {
     if is_text(input) {
-        let mut bytes = io::buffer();
-        answer_text(input, &mut bytes, sheet);
-        return;
+        let mut bytes = [0; 4096];
+        return answer_text(out, input, &mut bytes, sheet);
     }
-    answer_bytes(input, sheet);
+    answer_bytes(out, input, sheet)
 }
 
 // Whether an input is a text: no tag of an expression's first byte begins it.
@@ -45,95 +49,85 @@ fn is_text(input: &[u8]) -> bool {
 }
 
 // Reads a text into the bytes, which always suffice, and types those.
-fn answer_text(text: &[u8], bytes: &mut [u8], sheet: &mut [u8]) {
+fn answer_text(
+    out: &impl Print,
+    text: &[u8],
+    bytes: &mut [u8],
+    sheet: &mut [u8],
+) -> io::Result<()> {
     match read_text(text, bytes) {
-        TextAnswer::Refused(why) => print_refusal(why),
-        TextAnswer::Made(len) => answer_front(bytes, len, sheet),
+        TextAnswer::Refused(why) => print_refusal(out, why),
+        TextAnswer::Made(len) => answer_front(out, bytes, len, sheet),
     }
 }
 
 // Types the first `len` bytes.
-fn answer_front(bytes: &[u8], len: usize, sheet: &mut [u8])
+fn answer_front(out: &impl Print, bytes: &[u8], len: usize, sheet: &mut [u8]) -> io::Result<()>
     requires { len ≤ length bytes.now }
 {
-    answer_bytes(&bytes[..len], sheet);
+    answer_bytes(out, &bytes[..len], sheet)
 }
 
 // Types an expression in bytes into the sheet and prints what came out.
-fn answer_bytes(input: &[u8], sheet: &mut [u8]) {
+fn answer_bytes(out: &impl Print, input: &[u8], sheet: &mut [u8]) -> io::Result<()> {
     match type_expression(input, false, sheet) {
-        TypeAnswer::Refused(why) => print_refusal(why),
+        TypeAnswer::Refused(why) => print_refusal(out, why),
         TypeAnswer::Typed { result, len } => {
-            print_answer(0, 0, result.code);
-            print_sheet(sheet, len);
+            print_answer(out, 0, 0, result.code)?;
+            print_sheet(out, sheet, len)
         }
     }
 }
 
 // The line of a refusal.
-fn print_refusal(why: Refusal) {
-    print_answer(why.number(), why.place(), UNUSED);
+fn print_refusal(out: &impl Print, why: Refusal) -> io::Result<()> {
+    print_answer(out, why.number(), why.place(), UNUSED)
 }
 
 // Room for any worksheet.
 fn room() -> [u8; ENOUGH_BYTES]
-    ensures { enough_bytes ≡ length result }
+    ensures { enoughBytes ≡ length result }
 {
     [0; ENOUGH_BYTES]
 }
 
-// Reads what is left of standard input, up to more than any disk holds.
-fn skip_rest() {
-    let mut left: u64 = 1 << 40;
-    while 0 < left {
-        if !skip_some() {
-            return;
-        }
-        left -= 1;
-    }
-}
-
-// Reads some of standard input; false at its end.
-fn skip_some() -> bool {
-    let mut space = io::large_buffer();
-    0 < io::read_full(STDIN_FILENO, &mut space)
+// Reads what is left of standard input to its end.
+fn skip_rest(mut input: Stdin) -> io::Result<()> {
+    io::copy(&mut input, &mut io::sink())?;
+    Ok(())
 }
 
 // The line of number, place and type.
-fn print_answer(number: u8, place: usize, code: u8) {
-    print_number(number as u64, b" ");
-    print_number(place as u64, b" ");
-    print_number(code as u64, b"\n");
+fn print_answer(out: &impl Print, number: u8, place: usize, code: u8) -> io::Result<()> {
+    print_number(out, number as u64, " ")?;
+    print_number(out, place as u64, " ")?;
+    print_number(out, code as u64, "\n")
 }
 
 // The worksheet in the first `len` bytes of the buffer.
-fn print_sheet(buffer: &[u8], len: usize)
+fn print_sheet(out: &impl Print, buffer: &[u8], len: usize) -> io::Result<()>
     requires { len ≤ length buffer.now }
 {
-    print_lines(&buffer[..len]);
+    print_lines(out, &buffer[..len])
 }
 
 // The lines of a worksheet.
-fn print_lines(sheet: &[u8]) {
-    let mut at: usize = 0;
-    while at < sheet.len() {
-        print_line(&sheet[at..]);
-        if sheet.len() - at <= LINE {
-            return;
-        }
-        at += LINE;
+fn print_lines(out: &impl Print, sheet: &[u8]) -> io::Result<()> {
+    for line in sheet.chunks(LINE) {
+        print_line(out, line)?;
     }
+    Ok(())
 }
 
 // The first line of what is left of a worksheet.
-fn print_line(left: &[u8]) {
+fn print_line(out: &impl Print, left: &[u8]) -> io::Result<()> {
     if left.len() < LINE {
-        return;
+        return Ok(());
     }
-    print_number(wide(left[0]), b" ");
-    print_number(wide(left[1]), b" ");
-    print_number(wide(left[2]), b" ");
-    print_number(wide(left[3]), b"\n");
+    print_number(out, wide(left[0]), " ")?;
+    print_number(out, wide(left[1]), " ")?;
+    print_number(out, wide(left[2]), " ")?;
+    print_number(out, wide(left[3]), "\n")
 }
 
 fn wide(byte: u8) -> u64 {
@@ -141,7 +135,6 @@ fn wide(byte: u8) -> u64 {
 }
 
 // A number and what stands behind it.
-fn print_number(n: u64, end: &[u8]) {
-    io::print_decimal(STDOUT_FILENO, n);
-    io::write_all(STDOUT_FILENO, end);
+fn print_number(out: &impl Print, n: u64, end: &str) -> io::Result<()> {
+    print!(out; "{n}{end}")
 }
