@@ -119,15 +119,15 @@ fn print_lines(out: &impl Print, sheet: &[u8]) -> io::Result<()> {
     Ok(())
 }
 
-// The first line of what is left of a worksheet.
-fn print_line(out: &impl Print, left: &[u8]) -> io::Result<()> {
-    if left.len() < LINE {
+// A line of a worksheet; nothing of one that is cut short.
+fn print_line(out: &impl Print, line: &[u8]) -> io::Result<()> {
+    if line.len() < LINE {
         return Ok(());
     }
-    print_number(out, wide(left[0]), " ")?;
-    print_number(out, wide(left[1]), " ")?;
-    print_number(out, wide(left[2]), " ")?;
-    print_number(out, wide(left[3]), "\n")
+    print_number(out, wide(line[0]), " ")?;
+    print_number(out, wide(line[1]), " ")?;
+    print_number(out, wide(line[2]), " ")?;
+    print_number(out, wide(line[3]), "\n")
 }
 
 fn wide(byte: u8) -> u64 {
