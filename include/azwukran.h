@@ -1,9 +1,9 @@
 /* Azwukran for C: overload resolution of shader math functions, sets made by hand, consensus of scalars, and worksheets and
  * texts of expressions.
  *
- * Link target/staticlib/libazwukran.a, which `rt staticlib azwukran` writes (x86-64). The library uses no heap, keeps
- * nothing between calls and writes nothing but the bytes lent to it as `out`, so any thread may call it at any time.
- * No argument is an error to the library: whatever it cannot answer it refuses by number.
+ * Link target/staticlib/libazwukran.a, which `./staticlib` writes (x86-64). The library uses no heap, keeps nothing between
+ * calls and writes nothing but the bytes lent to it as `out`, so any thread may call it at any time. No argument is an error
+ * to the library: whatever it cannot answer it refuses by number.
  *
  * Lent memory
  *

@@ -1,10 +1,10 @@
-//! Links the static library, which `rt staticlib` writes to target/staticlib at the repository's root. AZWUKRAN_LIB_DIR
+//! Links the static library, which `./staticlib` writes to target/staticlib at the repository's root. AZWUKRAN_LIB_DIR
 //! may name another folder. A program that depends on this crate needs no build script of its own for it.
 
 use std::env;
 use std::path::PathBuf;
 
-/// The library's name for `rt staticlib` and for the linker; its file is this between `lib` and `.a`.
+/// The library's name for the linker; its file is this between `lib` and `.a`.
 const LIBRARY: &str = "azwukran";
 
 fn main() {
@@ -19,7 +19,7 @@ fn main() {
     println!("cargo:rerun-if-changed={}", file.display());
     if !file.exists() {
         eprintln!(
-            "{} is missing: run 'rt staticlib {LIBRARY}' at the repository's root, or set AZWUKRAN_LIB_DIR",
+            "{} is missing: run './staticlib' at the repository's root, or set AZWUKRAN_LIB_DIR",
             file.display()
         );
         std::process::exit(1);

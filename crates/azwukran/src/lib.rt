@@ -1,7 +1,9 @@
 // Overload resolution, consensus, worksheets and texts for C and Rust: each answer is a struct of plain numbers, with its number and its place.
 //
-// Every exported function ends on every input and tests it itself. It asks the function of the crates below that its promise names, and
+// Every public function ends on every input and tests it itself. It asks the function of the crates below that its promise names, and
 // puts the answer's number, place and values into the struct; a mask goes into bytes that the caller lends. Nothing is kept between calls.
+// The crate `azwukran_c` exports each of them to C under its own name.
+#![tactic(auto)]
 
 mod lent;
 mod list_sets;

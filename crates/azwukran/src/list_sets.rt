@@ -16,8 +16,7 @@ use c_sets::{RULE_BYTES, list_arg, list_concrete_only, list_preferred};
 use rules::Part;
 
 // The members with the constructor of an argument's type, as a mask in front of the lent bytes.
-#[unsafe(no_mangle)]
-pub extern "C" fn azwukran_list_arg_shape(
+pub fn azwukran_list_arg_shape(
     rules: &[u8],
     members: &[u8],
     index: usize,
@@ -35,8 +34,7 @@ pub extern "C" fn azwukran_list_arg_shape(
 }
 
 // The members with a scalar that an argument's type converts to, as a mask in front of the lent bytes.
-#[unsafe(no_mangle)]
-pub extern "C" fn azwukran_list_arg_number(
+pub fn azwukran_list_arg_number(
     rules: &[u8],
     members: &[u8],
     index: usize,
@@ -54,8 +52,7 @@ pub extern "C" fn azwukran_list_arg_number(
 }
 
 // The members without an abstract argument, as a mask in front of the lent bytes.
-#[unsafe(no_mangle)]
-pub extern "C" fn azwukran_list_concrete_only(
+pub fn azwukran_list_concrete_only(
     rules: &[u8],
     members: &[u8],
     out: &mut [u8],
@@ -67,8 +64,7 @@ pub extern "C" fn azwukran_list_concrete_only(
 }
 
 // The first member, with its index among the rules.
-#[unsafe(no_mangle)]
-pub extern "C" fn azwukran_list_preferred(rules: &[u8], members: &[u8]) -> ChosenForC
+pub fn azwukran_list_preferred(rules: &[u8], members: &[u8]) -> ChosenForC
     ensures { result ≡ chosen_for_c (of_list rules.now members.now list_preferred no_choice) }
 {
     chosen_for_c(list_preferred(rules, members))

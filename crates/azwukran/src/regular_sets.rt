@@ -16,8 +16,7 @@ use scalars::ScalarSet;
 use types::ConstructorSet;
 
 // The set with the constructor of an argument's type alone.
-#[unsafe(no_mangle)]
-pub extern "C" fn azwukran_regular_arg_shape(
+pub fn azwukran_regular_arg_shape(
     arity: u8,
     constructors: u16,
     scalars: u16,
@@ -39,8 +38,7 @@ pub extern "C" fn azwukran_regular_arg_shape(
 }
 
 // The set with the scalars alone that an argument's type converts to.
-#[unsafe(no_mangle)]
-pub extern "C" fn azwukran_regular_arg_number(
+pub fn azwukran_regular_arg_number(
     arity: u8,
     constructors: u16,
     scalars: u16,
@@ -62,8 +60,7 @@ pub extern "C" fn azwukran_regular_arg_number(
 }
 
 // The set without its abstract scalars.
-#[unsafe(no_mangle)]
-pub extern "C" fn azwukran_regular_concrete_only(
+pub fn azwukran_regular_concrete_only(
     arity: u8,
     constructors: u16,
     scalars: u16,
@@ -80,8 +77,7 @@ pub extern "C" fn azwukran_regular_concrete_only(
 }
 
 // The preferred rule.
-#[unsafe(no_mangle)]
-pub extern "C" fn azwukran_regular_preferred(
+pub fn azwukran_regular_preferred(
     arity: u8,
     constructors: u16,
     scalars: u16,
@@ -98,8 +94,7 @@ pub extern "C" fn azwukran_regular_preferred(
 }
 
 // The rule at an index of the set's listing.
-#[unsafe(no_mangle)]
-pub extern "C" fn azwukran_regular_rule(
+pub fn azwukran_regular_rule(
     arity: u8,
     constructors: u16,
     scalars: u16,

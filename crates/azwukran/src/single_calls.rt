@@ -22,8 +22,7 @@ const NO_BASE: u8 = 255;
 
 // The rule that a call means, with its index in the full listing and the mark of its result. The operands are their types and, beside
 // them, their marks. The concrete-only switch is off at 0, and on at anything else.
-#[unsafe(no_mangle)]
-pub extern "C" fn azwukran_call(function: u8, types: &[u8], marks: &[u8], switch: u8) -> ChosenForC
+pub fn azwukran_call(function: u8, types: &[u8], marks: &[u8], switch: u8) -> ChosenForC
     ensures { result ≡ chosen_for_c (call_of function_count listing_of (on switch) function types.now marks.now) }
 {
     call_for_c(call_of(function, types, marks, switch != 0))
@@ -31,8 +30,7 @@ pub extern "C" fn azwukran_call(function: u8, types: &[u8], marks: &[u8], switch
 
 // The rules of the full listing that survive a call, as a mask in front of the lent bytes. Refused as the call is, then 10 with the bytes
 // needed where there are fewer.
-#[unsafe(no_mangle)]
-pub extern "C" fn azwukran_survivors(
+pub fn azwukran_survivors(
     function: u8,
     types: &[u8],
     marks: &[u8],
@@ -57,16 +55,14 @@ fn rules_of(function: u8) -> usize
 }
 
 // The rule at an index of a function's full listing.
-#[unsafe(no_mangle)]
-pub extern "C" fn azwukran_rule(function: u8, index: u8) -> RuleForC
+pub fn azwukran_rule(function: u8, index: u8) -> RuleForC
     ensures { result ≡ rule_for_c (rule_at function index) }
 {
     rule_for_c(rule_at(function, index))
 }
 
 // The scalar on which components agree, from a base or none, and who gave it.
-#[unsafe(no_mangle)]
-pub extern "C" fn azwukran_consensus(base: u8, components: &[u8]) -> ConsensusForC
+pub fn azwukran_consensus(base: u8, components: &[u8]) -> ConsensusForC
     ensures { result ≡ consensus_for_c (consensus_of (base_of base) components.now) }
 {
     consensus_for_c(automatic_conversion_consensus(base_of(base), components))

@@ -14,8 +14,7 @@ use c_answers::{NO_VALUE, TextForC};
 use text::{TextAnswer, read_text, write_text};
 
 // The bytes of the expression that a text spells, in front of the lent bytes.
-#[unsafe(no_mangle)]
-pub extern "C" fn azwukran_read_text(text: &[u8], out: &mut [u8]) -> TextForC
+pub fn azwukran_read_text(text: &[u8], out: &mut [u8]) -> TextForC
     ensures answer { result ≡ text_for_c (lent_answer bytes_of (reading text.now) (length out.old)) }
     ensures buffer { out.new ≡ lent_buffer bytes_of (reading text.now) out.old }
 {
@@ -23,8 +22,7 @@ pub extern "C" fn azwukran_read_text(text: &[u8], out: &mut [u8]) -> TextForC
 }
 
 // The text of an expression's bytes, in front of the lent bytes.
-#[unsafe(no_mangle)]
-pub extern "C" fn azwukran_write_text(bytes: &[u8], out: &mut [u8]) -> TextForC
+pub fn azwukran_write_text(bytes: &[u8], out: &mut [u8]) -> TextForC
     ensures answer { result ≡ text_for_c (lent_answer text_of (expression_of function_count bytes.now) (length out.old)) }
     ensures buffer { out.new ≡ lent_buffer text_of (expression_of function_count bytes.now) out.old }
 {

@@ -15,8 +15,7 @@ use scalars::UNUSED;
 use worksheet::{TypeAnswer, type_expression};
 
 // The type and the mark of an expression and its worksheet's length, with the worksheet in front of the lent bytes.
-#[unsafe(no_mangle)]
-pub extern "C" fn azwukran_type(bytes: &[u8], switch: u8, out: &mut [u8]) -> TypeForC
+pub fn azwukran_type(bytes: &[u8], switch: u8, out: &mut [u8]) -> TypeForC
     ensures answer { result ≡ type_for_c (answer_of (typing (on switch) bytes.now out.old)) }
     ensures buffer { out.new ≡ buffer_after (typing (on switch) bytes.now out.old) out.old }
 {
@@ -39,8 +38,7 @@ pub extern "C" fn azwukran_type(bytes: &[u8], switch: u8, out: &mut [u8]) -> Typ
 }
 
 // The end of a worksheet's run on the strict machine, or the line of its stop.
-#[unsafe(no_mangle)]
-pub extern "C" fn azwukran_run(sheet: &[u8]) -> RunForC
+pub fn azwukran_run(sheet: &[u8]) -> RunForC
     ensures { result ≡ run_for_c (ran_of (run_bytes listing_of sheet.now)) }
 {
     match run_worksheet(sheet) {

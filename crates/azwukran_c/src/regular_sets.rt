@@ -1,0 +1,82 @@
+// Regular sets made by hand, for C: a set as its parts, arity, masks of constructors and of scalars, and conclusion. Each function calls the
+// library's of its name and promises what that one does.
+
+ghost use Rattle.std.specs.Prelude.{◌≡◌};
+ghost use Rattle.rules.specs.RulePaper.{no_rule};
+ghost use Rattle.rules.specs.declared.rule.Part.TheVariants as part;
+ghost use Rattle.regular.specs.Regular.{regular_arg, regular_concrete, regular_preferred};
+ghost use Rattle.regular.specs.SetPaper.{no_set};
+ghost use Rattle.c_sets.specs.Sets.{of_regular, regular_rule_at};
+ghost use Rattle.c_answers.specs.Answers.{rule_for_c, regular_for_c};
+
+use c_answers::{RegularForC, RuleForC};
+
+// The set with the constructor of an argument's type alone.
+#[unsafe(no_mangle)]
+pub extern "C" fn azwukran_regular_arg_shape(
+    arity: u8,
+    constructors: u16,
+    scalars: u16,
+    conclusion: u8,
+    index: usize,
+    code: u8,
+) -> RegularForC
+    ensures { result ≡ regular_for_c (of_regular arity constructors scalars conclusion (regular_arg part.Shape index code) no_set) }
+{
+    azwukran::azwukran_regular_arg_shape(arity, constructors, scalars, conclusion, index, code)
+}
+
+// The set with the scalars alone that an argument's type converts to.
+#[unsafe(no_mangle)]
+pub extern "C" fn azwukran_regular_arg_number(
+    arity: u8,
+    constructors: u16,
+    scalars: u16,
+    conclusion: u8,
+    index: usize,
+    code: u8,
+) -> RegularForC
+    ensures { result ≡ regular_for_c (of_regular arity constructors scalars conclusion (regular_arg part.Number index code) no_set) }
+{
+    azwukran::azwukran_regular_arg_number(arity, constructors, scalars, conclusion, index, code)
+}
+
+// The set without its abstract scalars.
+#[unsafe(no_mangle)]
+pub extern "C" fn azwukran_regular_concrete_only(
+    arity: u8,
+    constructors: u16,
+    scalars: u16,
+    conclusion: u8,
+) -> RegularForC
+    ensures { result ≡ regular_for_c (of_regular arity constructors scalars conclusion regular_concrete no_set) }
+{
+    azwukran::azwukran_regular_concrete_only(arity, constructors, scalars, conclusion)
+}
+
+// The preferred rule.
+#[unsafe(no_mangle)]
+pub extern "C" fn azwukran_regular_preferred(
+    arity: u8,
+    constructors: u16,
+    scalars: u16,
+    conclusion: u8,
+) -> RuleForC
+    ensures { result ≡ rule_for_c (of_regular arity constructors scalars conclusion regular_preferred no_rule) }
+{
+    azwukran::azwukran_regular_preferred(arity, constructors, scalars, conclusion)
+}
+
+// The rule at an index of the set's listing.
+#[unsafe(no_mangle)]
+pub extern "C" fn azwukran_regular_rule(
+    arity: u8,
+    constructors: u16,
+    scalars: u16,
+    conclusion: u8,
+    index: u8,
+) -> RuleForC
+    ensures { result ≡ rule_for_c (of_regular arity constructors scalars conclusion (regular_rule_at index) no_rule) }
+{
+    azwukran::azwukran_regular_rule(arity, constructors, scalars, conclusion, index)
+}

@@ -1,0 +1,53 @@
+// Single calls of the built-in functions, their rules, and the consensus of scalars, for C. Each function calls the library's of its name
+// and promises what that one does.
+
+ghost use Rattle.std.specs.Prelude.{◌≡◌, length};
+ghost use Rattle.types.specs.Conversion.{consensus_of};
+ghost use Rattle.functions.specs.Functions.{function_count, listing_of, rule_at};
+ghost use Rattle.calls.specs.Call.{call_of, survivors_of_call};
+ghost use Rattle.c_answers.specs.Answers.{chosen_for_c, rule_for_c, consensus_for_c, mask_for_c};
+ghost use Rattle.azwukran.specs.Questions.{on, base_of};
+ghost use Rattle.azwukran.specs.Lent.{in_room, lent_by};
+
+use c_answers::{ChosenForC, ConsensusForC, MaskForC, RuleForC};
+
+// The rule that a call means, with its index in the full listing and the mark of its result. The operands are their types and, beside
+// them, their marks. The concrete-only switch is off at 0, and on at anything else.
+#[unsafe(no_mangle)]
+pub extern "C" fn azwukran_call(function: u8, types: &[u8], marks: &[u8], switch: u8) -> ChosenForC
+    ensures { result ≡ chosen_for_c (call_of function_count listing_of (on switch) function types.now marks.now) }
+{
+    azwukran::azwukran_call(function, types, marks, switch)
+}
+
+// The rules of the full listing that survive a call, as a mask in front of the lent bytes. Refused as the call is, then 10 with the bytes
+// needed where there are fewer.
+#[unsafe(no_mangle)]
+pub extern "C" fn azwukran_survivors(
+    function: u8,
+    types: &[u8],
+    marks: &[u8],
+    switch: u8,
+    out: &mut [u8],
+) -> MaskForC
+    ensures answer { result ≡ mask_for_c (in_room (length (listing_of function)) out.old (survivors_of_call function_count listing_of (on switch) function types.now marks.now)) }
+    ensures lent { out.new ≡ lent_by (length (listing_of function)) (survivors_of_call function_count listing_of (on switch) function types.now marks.now) out.old }
+{
+    azwukran::azwukran_survivors(function, types, marks, switch, out)
+}
+
+// The rule at an index of a function's full listing.
+#[unsafe(no_mangle)]
+pub extern "C" fn azwukran_rule(function: u8, index: u8) -> RuleForC
+    ensures { result ≡ rule_for_c (rule_at function index) }
+{
+    azwukran::azwukran_rule(function, index)
+}
+
+// The scalar on which components agree, from a base or none, and who gave it.
+#[unsafe(no_mangle)]
+pub extern "C" fn azwukran_consensus(base: u8, components: &[u8]) -> ConsensusForC
+    ensures { result ≡ consensus_for_c (consensus_of (base_of base) components.now) }
+{
+    azwukran::azwukran_consensus(base, components)
+}
