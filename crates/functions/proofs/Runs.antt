@@ -61,8 +61,3 @@ NoneOf B k (suc n) f = NoneOf B k n f × (OneOf ((k + n) ∷ []) f → ⊥)
 pub none_of : (B : Type 0) (k n : ℕ) {f : ℕ} → NoneOf B k n f → k ≤ f → k + n ≤ f
 none_of B k zero c h = omega arith
 none_of B k (suc n) {f} c h = omega (arith, past (none_of B k n c.0 h) c.1)
-
--- what the others say
-pub others : (B : Type 0) (k n f : ℕ) → NoneOf B k n f → B
-others B k zero f c = c
-others B k (suc n) f c = others B k n f c.0

@@ -3,6 +3,7 @@
 //
 // Beside `mathfunction` stand `listed_rules`, the rules of the functions that have a List; `full_listing`, a rule by its index; and
 // `totals`, how many there are. Every public function ends on every input: a number that is no function's is refused, or has no rules.
+#![tactic(auto)]
 
 mod full_listing;
 mod listed_rules;

@@ -39,7 +39,7 @@ impl VectorSize {
 
 // The floating-point scalars. F32 comes before other sizes: this is how conversion rank is represented.
 pub(crate) fn float_scalars(i: u8) -> Scalar
-    ensures result_value { result.0 ≡ get_or float_scalars i 10 }
+    ensures listed { result.0 ≡ get_or float_scalars i 10 }
     ensures known { result.0 < scalar_count }
 {
     match i {
@@ -52,7 +52,7 @@ pub(crate) fn float_scalars(i: u8) -> Scalar
 
 // The floating-point scalars without the abstract one, which the crate leaves out of some functions.
 pub(crate) fn float_scalars_unimplemented_abstract(i: u8) -> Scalar
-    ensures result_value { result.0 ≡ get_or concrete_float_scalars i 10 }
+    ensures listed { result.0 ≡ get_or concrete_float_scalars i 10 }
     ensures known { result.0 < scalar_count }
 {
     match i {
@@ -64,7 +64,7 @@ pub(crate) fn float_scalars_unimplemented_abstract(i: u8) -> Scalar
 
 // The concrete integer scalars, signed before unsigned of each size.
 pub(crate) fn concrete_int_scalars(i: u8) -> Scalar
-    ensures result_value { result.0 ≡ get_or concrete_int_scalars i 7 }
+    ensures listed { result.0 ≡ get_or concrete_int_scalars i 7 }
     ensures known { result.0 < scalar_count }
 {
     match i {
@@ -79,7 +79,7 @@ pub(crate) fn concrete_int_scalars(i: u8) -> Scalar
 
 // The sizes of vectors.
 pub(crate) fn vector_sizes(i: u8) -> VectorSize
-    ensures result_value { result.0 ≡ get_or vector_sizes i 4 }
+    ensures listed { result.0 ≡ get_or vector_sizes i 4 }
     ensures known { (2 ≤ result.0) × (result.0 ≤ 4) }
 {
     match i {
