@@ -1,0 +1,17 @@
+-- `rules_in` meets its contract. The loop's invariant: the rules so far, followed by those that are left, are all of them.
+-- Assumes nothing.
+use mathlib.Core.Path.{◌≡◌, refl}
+use Prim.Native.Nat.{◌-◌, ◌≤◌}
+use native.Mathlib.Omega.{arith}
+use lib.ListN.{length, drop, length-set}
+use lib.Seq.{sets}
+use Rattle.scalars.proofs.Fills.{fill_step, fill_end}
+use Rattle.c_sets.specs.Sets.{byte_rules}
+use Rattle.c_sets.proofs.ByteRules.{rules-next, rules-past, rules-filled}
+use Rattle.c_sets.proofs.list_parts.rules_in.Given as goal
+
+abbrev pub invariant-loop-k : goal.invariant-loop-k
+invariant-loop-k l = (l.k ≤ 63) × (length l.out ≡ 63) × (sets l.out l.k (drop l.k (byte_rules l.bytes)) ≡ byte_rules l.bytes)
+
+abbrev pub decreases-loop-k : goal.decreases-loop-k
+decreases-loop-k l = 63 - l.k
