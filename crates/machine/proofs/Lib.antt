@@ -7,6 +7,5 @@ pub mod TopLast
 pub mod Stacks
 pub mod Matching
 pub mod MarksAbove
-pub mod LinesDone
 pub mod RuleRecords
 pub mod Outcomes

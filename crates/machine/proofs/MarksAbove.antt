@@ -9,7 +9,6 @@ use lib.ListN.{length, get_or, drop, drop_of_length-le}
 use lib.Seq.{drop-cons, get_or-take}
 use Rattle.scalars.specs.Mask.{either}
 use Rattle.types.specs.Operand.{any_measured}
-use Rattle.types.specs.declared.operand.Operand.{Operand}
 use Rattle.machine.specs.declared.machine.Stack.{Stack}
 use Rattle.machine.specs.Machine.{no_operand}
 use Rattle.machine.specs.private.MachineStack.{operands_on, InBounds}

@@ -52,10 +52,6 @@ abbrev pub line_at : (ℕ → List Signature) → List ℕ → ℕ → List Oper
 line_at listing_of bs at s =
     step_if (step_last listing_of) (line_of (get_or bs at 0) (get_or bs (at + 1) 0) (get_or bs (at + 2) 0) (get_or bs (at + 3) 0)) s
 
-pub run-starts : (listing_of : ℕ → List Signature) (bs : List ℕ) (s : List Operand) → s ≡ []
-    → run_last listing_of (lines_of bs) 0 s ≡ run_last listing_of (lines_of bs) 0 []
-run-starts listing_of bs s e = rw e
-
 module _ (listing_of : ℕ → List Signature) (bs : List ℕ) (at n : ℕ) (s : List Operand)
     (inv : run_last listing_of (lines_of (drop at bs)) n s ≡ run_last listing_of (lines_of bs) 0 []) where
   -- the run from these lines on goes out as the whole run does

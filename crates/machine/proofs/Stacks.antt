@@ -1,32 +1,28 @@
--- A stack in an array with a count does what the machine whose stack has its top last does: a push, a conversion, a call of a rule and
--- the end of a run, each way through them.
+-- A stack in an array with a count does what the machine whose stack has its top last does: a conversion and a call of a rule, each way
+-- through them.
 -- Assumes nothing.
 use mathlib.Core.Path.{◌≡◌, refl, sym, ap, ◌∙◌}
 use mathlib.Core.Bool.{Bool, true, false, not}
-use mathlib.Core.List.{List, [], ◌∷◌, ◌++◌, reverse, reverse-append}
 use mathlib.Core.Option.{some}
-use Prim.Native.Nat.{ℕ, suc, ◌+◌, ◌-◌, ◌≤◌, ◌<◌}
-use native.Mathlib.Numerals.{add-one}
+use Prim.Native.Nat.{ℕ, suc, ◌-◌, ◌≤◌, ◌<◌}
 use native.Mathlib.Omega.{arith}
 use lib.Dec.{leb, ltb}
-use lib.ListN.{length, get_or, set, take, drop, length-set, length-reverse}
-use lib.Seq.{length-take-le, take-suc, take-suc-set, take-set-lt, take-take, get_or-take}
+use lib.ListN.{length, get_or, set, take, drop, length-set}
+use lib.Seq.{length-take-le, take-set-lt, take-take, get_or-take}
 use borrow.Author.Tests.{lt-ltb, le-ltb, le-leb, lt-leb, eq-eqb, ne_eqb}
-use Rattle.scalars.specs.Mask.{both, either, head_or}
-use Rattle.types.specs.Operand.{mark_of, codes, marks, any_measured}
+use Rattle.scalars.specs.Mask.{both, either}
+use Rattle.types.specs.Operand.{any_measured}
 use Rattle.types.specs.declared.operand.Operand.{Operand}
 use Rattle.rules.specs.Signature.{reaches, concrete}
 use Rattle.rules.specs.Rule.{most_arguments, arguments_of, signature_of}
 use Rattle.rules.specs.declared.rule.Rule.{Rule}
 use Rattle.rules.proofs.Rules.{count_of}
-use Rattle.machine.specs.declared.machine.Run.TheVariants.{Ended}
 use Rattle.machine.specs.declared.machine.Stack.{Stack}
 use Rattle.machine.specs.declared.machine.Stepped.{Stepped}
 use Rattle.machine.specs.Line.{only_if}
-use Rattle.machine.specs.Machine.{most_operands, no_operand, retyped, same, concluded, agrees}
-use Rattle.machine.specs.Run.{run_paper}
+use Rattle.machine.specs.Machine.{no_operand, retyped, same, concluded, agrees}
 use Rattle.machine.specs.private.TopLast.{push_last, convert_last, apply_last, convertible}
-use Rattle.machine.specs.private.MachineStack.{ran_last, operands_on, InBounds, Did, alike_from}
+use Rattle.machine.specs.private.MachineStack.{operands_on, InBounds, Did, alike_from}
 
 -- a rule that counts no more arguments than its record holds has as many as it counts
 pub arity : (q : Rule) → q.count ≤ most_arguments → length (arguments_of q) ≡ q.count
@@ -39,21 +35,6 @@ stop k = record { done = false; stack = k }
 module _ (k : Stack) (fits : InBounds k) where
   pub counted : length (operands_on k) ≡ k.top
   counted = length-take-le k.top k.operands (omega (arith, fits.long, fits.few))
-
-  pub push-full : (o : Operand) → most_operands ≤ k.top → Did (push_last o (operands_on k)) (stop k)
-  push-full o h = rw (counted, le-ltb k.top most_operands h)
-
-  pub pushed : (o : Operand) → k.top < most_operands
-      → Did (push_last o (operands_on k)) (record { done = true; stack = record { operands = set k.operands k.top o; top = k.top + 1 } })
-  pushed o h =
-      rw (counted, lt-ltb k.top most_operands h)
-      (record {
-        done-is = refl;
-        holds = record {
-          fits = record { long = simp length-set fits.long; few = omega arith };
-          operands_are = rw add-one (take-suc-set k.operands k.top o (omega (arith, fits.long)));
-        };
-      })
 
   -- the operand with d others above it
   module _ (d a : ℕ) where
@@ -139,22 +120,3 @@ module _ (k : Stack) (fits : InBounds k) where
               → Did (push_last (record { code = q.result; measured = b }) (take (k.top - n) k.operands)) r
               → Did (apply_last n (operands_on k) (some (signature_of q))) r
           applied r e h = alike_if r (rw (e, take-take (k.top - n) k.top k.operands (omega arith)) h)
-
-  -- the end of a run
-  pub ends-empty : k.top ≡ 0 → run_paper (Ended 0 255 255) ≡ ran_last (operands_on k)
-  ends-empty e = rw e
-
-  -- the topmost operand, in the array
-  abbrev topmost : Operand
-  topmost = get_or k.operands (k.top - 1) no_operand
-
-  pub ends : (k.top ≡ 0 → ⊥) → (m : ℕ) → m ≡ mark_of topmost.measured
-      → run_paper (Ended k.top topmost.code m) ≡ ran_last (operands_on k)
-  ends h m e =
-      let p : k.top ≡ suc (k.top - 1) = omega arith in
-      let last : operands_on k ≡ take (k.top - 1) k.operands ++ (topmost ∷ []) =
-      ap (λ (i : ℕ). take i k.operands) p ∙ take-suc k.operands (k.top - 1) no_operand (omega (arith, fits.long, fits.few)) in
-      let turned : reverse (operands_on k) ≡ topmost ∷ reverse (take (k.top - 1) k.operands) =
-      ap reverse last ∙ reverse-append (take (k.top - 1) k.operands) (topmost ∷ []) in
-      let long : length (reverse (operands_on k)) ≡ k.top = length-reverse (operands_on k) ∙ counted in
-      rw (long, ap (λ (s : List Operand). head_or 255 (codes s)) turned, ap (λ (s : List Operand). head_or 255 (marks s)) turned, e)

@@ -1,4 +1,6 @@
 // Worksheets, lines of four bytes, and the strict machine that runs them.
+#![tactic(auto)]
+
 mod line;
 mod machine;
 
