@@ -1,5 +1,7 @@
 // The names of types and functions as byte strings: the name of a word, and the word that a run of bytes is. And the word `measured`, which
 // is neither.
+#![tactic(auto)]
+
 mod index;
 mod measured;
 mod names;

@@ -2,12 +2,8 @@
 use mathlib.Core.Path.{refl}
 use Rattle.names.specs.Names.{bytes, function_names, scalar_names, shape_names, shaped, shaped_all, type_names, words}
 use Rattle.names.specs.Spelling.{joined, built_in_names}
-use Rattle.names.proofs.names.built_in_names.Statement.{statement}
-use Rattle.names.proofs.names.built_in_names.Tie as tie
+use Rattle.names.proofs.names.built_in_names.Goals as goal
 
-returns : tie.Need-returns
+pub returns : goal.returns
 unfolding built_in_names joined words type_names shaped_all shaped shape_names scalar_names function_names bytes
 returns c = refl
-
-pub built-in-names-spec : {M : Type 1} → statement M
-built-in-names-spec = tie.close (tie.spec returns)
