@@ -3,6 +3,7 @@
 // `function_list` has the List of a function; `call` and `function_call` do what naga's front end does with a set; `outcome` is what a
 // call comes to, for a caller that says where it stands. Every public function ends on every input and tests it itself, but for
 // `outcome_of`, whose caller has tested the function and the types.
+#![tactic(auto)]
 
 mod call;
 mod function_call;

@@ -1,5 +1,7 @@
 // The typer: the type of an expression and its worksheet, by the first pass of the crate `expressions` and the single calls of the
 // crate `calls`. The strict machine that runs the worksheet stands in the crate `machine`.
+#![tactic(auto)]
+
 mod one_call;
 mod progress;
 mod sheet;

@@ -1,5 +1,5 @@
 -- The sets that functions have, as a call of one requires them, and where a rule stands in a Regular set's listing.
-use Rattle.std.specs.Prelude.{◌≡◌, true, false, [], ◌∷◌, ℕ, ◌+◌, ◌-◌, ◌*◌, ◌^◌, ◌≤◌, ◌<◌, length}
+use Rattle.std.specs.Prelude.{◌≡◌, true, false, [], ◌∷◌, ℕ, ◌+◌, ◌-◌, ◌*◌, ◌^◌, ◌≤◌, length}
 use mathlib.Core.List as L
 use Rattle.scalars.specs.Mask.{bits}
 use Rattle.scalars.specs.Paper.{Paper, accepted, refusal}

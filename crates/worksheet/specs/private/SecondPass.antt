@@ -1,6 +1,6 @@
 -- What the private functions of src/typer.rt and src/one_call.rt require and promise. Each is told of every tree whose bytes stand at
 -- the offset: its typing is what the definition of the second pass answers, with the operands on the stack and the lines on the sheet.
-use Rattle.std.specs.Prelude.{◌≡◌, Bool, List, [], ◌∷◌, ◌++◌, ℕ, ◌+◌, ◌-◌, ◌*◌, ◌≤◌, ◌<◌, length, drop}
+use Rattle.std.specs.Prelude.{◌≡◌, Bool, List, [], ◌∷◌, ◌++◌, ℕ, ◌+◌, ◌*◌, ◌≤◌, ◌<◌, length, drop}
 use Rattle.scalars.specs.Paper as paper
 use Rattle.scalars.specs.Paper.{Paper}
 use Rattle.scalars.specs.declared.answer.Verdict.TheVariants.{Accepted}

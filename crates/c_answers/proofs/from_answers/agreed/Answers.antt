@@ -1,7 +1,6 @@
 -- `agreed` meets its contract, by who gave the scalar. Assumes nothing.
 use mathlib.Core.Path.{refl}
 use Rattle.c_answers.specs.Answers.{consensus_for_c}
-use borrow.Author.Rules.{rules}
 use Rattle.c_answers.proofs.from_answers.agreed.Goals as goal
 
 pub returns-in-Base : goal.returns-in-Base

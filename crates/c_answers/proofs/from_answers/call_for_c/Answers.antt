@@ -12,7 +12,6 @@ use Rattle.calls.specs.declared.outcome.CallAnswer.TheVariants.{Called}
 use Rattle.c_answers.specs.Answers.{chosen_for_c}
 use Rattle.c_answers.specs.declared.answers.ChosenForC.{ChosenForC}
 use Rattle.c_answers.proofs.Structs.{of_known}
-use borrow.Author.Rules.{rules}
 use Rattle.c_answers.proofs.from_answers.call_for_c.Goals as goal
 
 -- the struct of a chosen rule and a mark, by what the mark is known to be

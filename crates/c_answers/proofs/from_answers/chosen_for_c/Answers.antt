@@ -2,7 +2,6 @@
 use Rattle.lists.specs.ChosenPaper.{chosen_paper}
 use Rattle.c_answers.specs.Answers.{chosen_for_c}
 use Rattle.c_answers.proofs.Structs.{of_known}
-use borrow.Author.Rules.{rules}
 use Rattle.c_answers.proofs.from_answers.chosen_for_c.Goals as goal
 
 pub returns-in-Refused : goal.returns-in-Refused

@@ -4,7 +4,6 @@ use mathlib.Core.List.{[]}
 use Rattle.scalars.specs.Paper.{verdict_paper}
 use Rattle.c_answers.specs.Answers.{mask_for_c}
 use Rattle.c_answers.proofs.Structs.{of_known, of_refused}
-use borrow.Author.Rules.{rules}
 use Rattle.c_answers.proofs.from_answers.mask_for_c.Goals as goal
 
 pub returns-in-Refused : goal.returns-in-Refused

@@ -4,7 +4,6 @@ use Prim.Native.Nat.{ℕ}
 use Rattle.scalars.specs.Paper.{refusal}
 use Rattle.lists.specs.ChosenPaper.{no_choice}
 use Rattle.c_answers.specs.Answers.{chosen_for_c}
-use borrow.Author.Rules.{rules}
 use Rattle.c_answers.proofs.from_answers.not_chosen.Goals as goal
 
 pub returns : goal.returns

@@ -1,6 +1,5 @@
 -- `parts` meets its contract: the struct of a Regular set, field by field. Assumes nothing.
 use Rattle.c_answers.specs.Answers.{regular_for_c}
-use borrow.Author.Rules.{rules}
 use Rattle.c_answers.proofs.from_answers.parts.Goals as goal
 
 pub returns : goal.returns

@@ -3,7 +3,6 @@ use mathlib.Core.Path.{refl}
 use Rattle.regular.specs.SetPaper.{regular_paper, no_set}
 use Rattle.c_answers.specs.Answers.{regular_for_c}
 use Rattle.c_answers.proofs.Structs.{of_known, of_refused}
-use borrow.Author.Rules.{rules}
 use Rattle.c_answers.proofs.from_answers.regular_for_c.Goals as goal
 
 pub returns-in-Refused : goal.returns-in-Refused

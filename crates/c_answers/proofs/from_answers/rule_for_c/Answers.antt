@@ -3,7 +3,6 @@ use mathlib.Core.Path.{refl}
 use Rattle.rules.specs.RulePaper.{rule_paper, no_rule}
 use Rattle.c_answers.specs.Answers.{rule_for_c}
 use Rattle.c_answers.proofs.Structs.{of_known, of_refused}
-use borrow.Author.Rules.{rules}
 use Rattle.c_answers.proofs.from_answers.rule_for_c.Goals as goal
 
 pub returns-in-Refused : goal.returns-in-Refused

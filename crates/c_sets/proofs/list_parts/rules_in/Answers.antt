@@ -1,12 +1,9 @@
 -- `rules_in` meets its contract. The loop's invariant: the rules so far, followed by those that are left, are all of them.
 -- Assumes nothing.
-use mathlib.Core.Path.{◌≡◌, refl}
-use Prim.Native.Nat.{◌-◌, ◌≤◌}
+use mathlib.Core.Path.{refl}
 use native.Mathlib.Omega.{arith}
-use lib.ListN.{length, drop, length-set}
-use lib.Seq.{sets}
+use lib.ListN.{length-set}
 use Rattle.scalars.proofs.Fills.{fill_step, fill_end}
-use Rattle.c_sets.specs.Sets.{byte_rules}
 use Rattle.c_sets.proofs.ByteRules.{rules-next, rules-past, rules-filled}
 use Rattle.c_sets.proofs.list_parts.rules_in.Goals as goal
 

@@ -1,13 +1,10 @@
 -- `rules_in` meets its contract. The loop's invariant: the rules so far, followed by those that are left, are all of them.
 -- Assumes nothing.
-use mathlib.Core.Path.{◌≡◌, refl}
+use mathlib.Core.Path.{◌≡◌}
 use Prim.Native.Nat.{◌-◌, ◌≤◌}
-use native.Mathlib.Omega.{arith}
-use lib.ListN.{length, drop, length-set}
+use lib.ListN.{length, drop}
 use lib.Seq.{sets}
-use Rattle.scalars.proofs.Fills.{fill_step, fill_end}
 use Rattle.c_sets.specs.Sets.{byte_rules}
-use Rattle.c_sets.proofs.ByteRules.{rules-next, rules-past, rules-filled}
 use Rattle.c_sets.proofs.list_parts.rules_in.Given as goal
 
 abbrev pub invariant-loop-k : goal.invariant-loop-k

@@ -5,7 +5,6 @@ use mathlib.Core.Path.{subst⁻¹}
 use Prim.Native.Nat.{ℕ, ◌<◌}
 use Rattle.scalars.proofs.Masks.{bit_is}
 use Rattle.calls.proofs.Positions.{rank-ones}
-use borrow.Author.Rules.{rules}
 use Rattle.calls.proofs.call.below.Goals as goal
 
 pub nonzero_rem-result : goal.nonzero_rem-result

@@ -4,14 +4,13 @@ use mathlib.Core.Path.{sym, ap, ◌∙◌, subst}
 use Rattle.lists.specs.List.{signatures}
 use Rattle.calls.specs.Call.{answered}
 use Rattle.calls.specs.private.Steps.{choice_by, Bounded}
-use borrow.Author.Rules.{rules}
 use Rattle.calls.proofs.call.call_list.Goals as goal
 
 pub first_of-requires : goal.first_of-requires
 first_of-requires c = record {
-      valid = c.requires.valid;
-      within = subst (Bounded c.args.list c.args.operands.now) c.in-Left.is c.stepped.ensures.bounded;
-    }
+  valid = c.requires.valid;
+  within = subst (Bounded c.args.list c.args.operands.now) c.in-Left.is c.stepped.ensures.bounded;
+}
 
 pub returns-in-WrongCount : goal.returns-in-WrongCount
 returns-in-WrongCount c = ap answered (ap (choice_by (signatures c.args.list)) (sym c.in-WrongCount.is) ∙ c.stepped.ensures.choice)

@@ -1,9 +1,9 @@
 -- `call_regular` meets its contract. The loop's invariant: the masks hold the entries that are left after the operands so far, and the steps
 -- to come are the rest of all steps. Assumes nothing.
 use mathlib.Core.Path.{◌≡◌, sym, ap, ◌∙◌, subst}
-use Prim.Native.Nat.{◌+◌, ◌-◌}
+use Prim.Native.Nat.{◌+◌}
 use native.Mathlib.Omega.{arith}
-use lib.ListN.{length, get_or}
+use lib.ListN.{get_or}
 use Rattle.scalars.specs.Mask.{bits}
 use Rattle.rules.specs.declared.rule.Part.TheVariants.{Shape, Number}
 use Rattle.regular.specs.Regular.{empty_set?, narrowed, concrete_set}

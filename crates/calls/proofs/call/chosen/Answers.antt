@@ -6,7 +6,6 @@ use Rattle.regular.specs.Regular.{rule_for}
 use Rattle.regular.proofs.Regulars.{known_rule}
 use Rattle.rules.specs.RulePaper.{rule_paper}
 use Rattle.calls.specs.private.CallSets.{indexed}
-use borrow.Author.Rules.{rules}
 use Rattle.calls.proofs.call.chosen.Goals as goal
 
 rule-is : (c : goal.After-place)

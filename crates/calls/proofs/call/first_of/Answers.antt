@@ -2,7 +2,6 @@
 -- Assumes nothing.
 use Rattle.scalars.proofs.Walks.{taken, ended}
 use Rattle.calls.proofs.ListCalls.{left_word, first-none, first_rule}
-use borrow.Author.Rules.{rules}
 use Rattle.calls.proofs.call.first_of.Goals as goal
 
 pub returns-in-Done : goal.returns-in-Done

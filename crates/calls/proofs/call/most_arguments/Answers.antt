@@ -3,7 +3,6 @@
 use mathlib.Core.Path.{sym, ap, ◌∙◌}
 use Rattle.scalars.specs.Paper.{count_paper}
 use Rattle.calls.proofs.ListCalls.{full-none, full-longest}
-use borrow.Author.Rules.{rules}
 use Rattle.calls.proofs.call.most_arguments.Goals as goal
 
 pub returns-in-Refused : goal.returns-in-Refused

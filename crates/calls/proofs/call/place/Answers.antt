@@ -6,7 +6,6 @@ use native.Mathlib.Omega.{arith}
 use lib.Count.{ones}
 use Rattle.calls.specs.private.CallSets.{place_in}
 use Rattle.calls.proofs.Positions.{place-most, place_is}
-use borrow.Author.Rules.{rules}
 use Rattle.calls.proofs.call.place.Goals as goal
 
 -- the index fits in a byte

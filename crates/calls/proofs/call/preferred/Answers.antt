@@ -10,7 +10,6 @@ use Rattle.scalars.specs.Paper.{scalar_paper}
 use Rattle.scalars.proofs.Walks.{WalkedBits, walked-bits, ended-bits}
 use Rattle.calls.specs.private.CallSets.{preferred_in}
 use Rattle.calls.proofs.RegularResolving.{scalar-none, scalar-some, none-preferred}
-use borrow.Author.Rules.{rules}
 use Rattle.calls.proofs.call.preferred.Goals as goal
 
 -- the lowest constructor, and the lowest scalar

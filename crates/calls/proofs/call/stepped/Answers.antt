@@ -1,9 +1,8 @@
 -- `stepped` meets its contract. The loop's invariant: the members are the entries that are left after the operands so far, and the steps
 -- to come are the rest of all steps. Assumes nothing.
 use mathlib.Core.Path.{refl, sym, ◌∙◌, subst}
-use Prim.Native.Nat.{ℕ, ◌+◌, ◌-◌}
+use Prim.Native.Nat.{ℕ, ◌+◌}
 use native.Mathlib.Omega.{arith}
-use lib.ListN.{length}
 use Rattle.rules.specs.declared.rule.Part.TheVariants.{Shape, Number}
 use Rattle.calls.proofs.ListCalls.{Reached, steps-wrong, reached-start, reached_out, reached-on, reached-end, reached-concrete}
 use Rattle.calls.proofs.call.stepped.Goals as goal

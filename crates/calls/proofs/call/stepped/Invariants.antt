@@ -1,11 +1,9 @@
 -- `stepped` meets its contract. The loop's invariant: the members are the entries that are left after the operands so far, and the steps
 -- to come are the rest of all steps. Assumes nothing.
-use mathlib.Core.Path.{refl, sym, ◌∙◌, subst}
-use Prim.Native.Nat.{ℕ, ◌+◌, ◌-◌}
-use native.Mathlib.Omega.{arith}
+use Prim.Native.Nat.{◌-◌}
 use lib.ListN.{length}
-use Rattle.rules.specs.declared.rule.Part.TheVariants.{Shape, Number}
-use Rattle.calls.proofs.ListCalls.{Reached, steps-wrong, reached-start, reached_out, reached-on, reached-end, reached-concrete}
+use Rattle.rules.specs.declared.rule.Part.TheVariants.{Shape}
+use Rattle.calls.proofs.ListCalls.{Reached}
 use Rattle.calls.proofs.call.stepped.Given as goal
 
 abbrev pub invariant-loop-i : goal.invariant-loop-i

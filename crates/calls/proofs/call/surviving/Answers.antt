@@ -6,7 +6,6 @@ use Prim.Native.Nat.{◌+◌, ◌^◌, ◌<◌}
 use native.Mathlib.Omega.{arith}
 use Rattle.scalars.specs.Paper.{Paper, refusal, number, place}
 use Rattle.calls.specs.private.Steps.{survivors_by, Placed}
-use borrow.Author.Rules.{rules}
 use Rattle.calls.proofs.call.surviving.Goals as goal
 
 pub overflow_add-operand : goal.overflow_add-operand

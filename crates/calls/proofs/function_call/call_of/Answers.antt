@@ -6,7 +6,6 @@ use Rattle.calls.specs.private.Found.{found_paper}
 use Rattle.calls.specs.Call.{with_mark}
 use Rattle.calls.proofs.CallTests.{refused-call, passed-call}
 use Rattle.calls.proofs.OutcomePapers.{outcome-placed}
-use borrow.Author.Rules.{rules}
 use Rattle.calls.proofs.function_call.call_of.Goals as goal
 
 pub single-requires : goal.single-requires

@@ -7,7 +7,6 @@ use Rattle.calls.specs.Choice.{resolve}
 use Rattle.calls.specs.Call.{answered}
 use Rattle.calls.proofs.FunctionCalls.{callable, regular_listing, full, list_listing}
 use Rattle.functions.proofs.FunctionPapers.{set_told}
-use borrow.Author.Rules.{rules}
 use Rattle.calls.proofs.function_call.outcome_of.Goals as goal
 
 pub call_regular-requires : goal.call_regular-requires

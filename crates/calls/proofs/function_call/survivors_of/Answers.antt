@@ -11,7 +11,6 @@ use Rattle.calls.specs.private.CallSets.{Full}
 use Rattle.calls.proofs.FunctionCalls.{listed_of, full_of}
 use Rattle.calls.proofs.ListCalls.{placed_of}
 use Rattle.calls.proofs.CallTests.{refused-survivors, passed-survivors}
-use borrow.Author.Rules.{rules}
 use Rattle.calls.proofs.function_call.survivors_of.Goals as goal
 
 pub stepped-requires : goal.stepped-requires

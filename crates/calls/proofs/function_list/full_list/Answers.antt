@@ -4,10 +4,8 @@ use mathlib.Core.Path.{◌≡◌, refl, ap, subst⁻¹}
 use mathlib.Core.List.{map}
 use Prim.Native.Nat.{ℕ, ◌-◌, ◌*◌, ◌%◌, ◌^◌, ◌≤◌}
 use native.Mathlib.Omega.{arith}
-use lib.ListN.{length, drop, length-set, length-map}
+use lib.ListN.{length, length-set, length-map}
 use lib.Pow.{pow_pos}
-use lib.Seq.{sets}
-use Rattle.scalars.specs.Mask.{padded}
 use Rattle.rules.specs.Rule.{blank_rule, rule_of}
 use Rattle.functions.specs.ListedRules.{listed_rules}
 use Rattle.scalars.proofs.Masks.{bit_is}
@@ -57,12 +55,11 @@ loop-k-smaller c = omega arith
 
 pub loop-k-preserved : goal.loop-k-preserved
 loop-k-preserved c =
-    let records-length : length (map rule_of (listed_rules c.args.listed)) ≡ length (listed_rules c.args.listed) = length-map (listed_rules c.args.listed) rule_of in
-    (
-  omega arith,
-  simp length-set c.loop-k.invariant.1,
-  rw c.listed_rule.ensures (fill_step _ _ (next_at blank_rule (map rule_of (listed_rules c.args.listed)) c.loop-k.k (omega (arith, records-length, c.rule_count-n.ensures))) c.loop-k.invariant.2),
-)
+    let records-length : length (map rule_of (listed_rules c.args.listed)) ≡ length (listed_rules c.args.listed) = length-map (listed_rules c.args.listed) rule_of in (
+      omega arith,
+      simp length-set c.loop-k.invariant.1,
+      rw c.listed_rule.ensures (fill_step _ _ (next_at blank_rule (map rule_of (listed_rules c.args.listed)) c.loop-k.k (omega (arith, records-length, c.rule_count-n.ensures))) c.loop-k.invariant.2),
+    )
 
 pub overflow_cast-result : goal.overflow_cast-result
 overflow_cast-result c =

@@ -1,20 +1,13 @@
 -- `full_list` meets its contract. The loop's invariant: the records so far, followed by those of the rules that are left, are the whole
 -- array. Assumes nothing.
-use mathlib.Core.Path.{◌≡◌, refl, ap, subst⁻¹}
+use mathlib.Core.Path.{◌≡◌}
 use mathlib.Core.List.{map}
-use Prim.Native.Nat.{ℕ, ◌-◌, ◌*◌, ◌%◌, ◌^◌, ◌≤◌}
-use native.Mathlib.Omega.{arith}
-use lib.ListN.{length, drop, length-set, length-map}
-use lib.Pow.{pow_pos}
+use Prim.Native.Nat.{◌-◌, ◌≤◌}
+use lib.ListN.{length, drop}
 use lib.Seq.{sets}
 use Rattle.scalars.specs.Mask.{padded}
 use Rattle.rules.specs.Rule.{blank_rule, rule_of}
 use Rattle.functions.specs.ListedRules.{listed_rules}
-use Rattle.scalars.proofs.Masks.{bit_is}
-use Rattle.scalars.proofs.Fills.{filled, fill_step, fill_end}
-use Rattle.functions.proofs.Runs.{next_at, past-at}
-use Rattle.functions.proofs.Places.{few-listed}
-use Rattle.calls.proofs.ListsOf.{list-built}
 use Rattle.calls.proofs.function_list.full_list.Given as goal
 
 abbrev pub invariant-loop-k : goal.invariant-loop-k

@@ -4,7 +4,6 @@ use mathlib.Core.Path.{sym, ap, ◌∙◌}
 use Rattle.lists.specs.Expansion.{list_of}
 use Rattle.calls.proofs.FunctionCalls.{regular-list, listed-listing}
 use Rattle.functions.proofs.FunctionPapers.{set_told}
-use borrow.Author.Rules.{rules}
 use Rattle.calls.proofs.function_list.rules_of.Goals as goal
 
 pub returns-in-Regular : goal.returns-in-Regular

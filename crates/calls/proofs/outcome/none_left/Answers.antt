@@ -1,6 +1,5 @@
 -- `none_left` meets its contract: a case for each part.
 -- Assumes nothing.
-use borrow.Author.Rules.{rules}
 use Rattle.calls.proofs.outcome.none_left.Goals as goal
 
 pub returns-in-Shape : goal.returns-in-Shape

@@ -10,7 +10,6 @@ use Rattle.calls.specs.Call.{with_mark}
 use Rattle.calls.specs.OutcomePaper.{outcome_paper}
 use Rattle.calls.specs.private.Steps.{OutcomePlaced}
 use Rattle.calls.specs.declared.outcome.Outcome.{Outcome}
-use borrow.Author.Rules.{rules}
 use Rattle.calls.proofs.outcome.single.Goals as goal
 
 -- the answer to what the call is known to have come to

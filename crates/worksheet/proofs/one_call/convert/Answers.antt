@@ -1,15 +1,10 @@
 -- `convert` meets its contract. The loop's invariant: whatever writes the conversions that are left writes them all, and there is room
 -- for a line for each operand left. The measure is the number of operands left. Assumes nothing.
 use mathlib.Core.Path.{ap}
-use mathlib.Core.Logic.{⊎_elim}
-use Prim.Native.Nat.{◌+◌, ◌*◌, ◌-◌, ◌≤◌}
 use native.Mathlib.Omega.{arith}
-use borrow.Author.Rules.{rules}
-use lib.ListN.{length}
 use Rattle.worksheet.specs.declared.sheet.Sheet.{Sheet}
-use Rattle.worksheet.specs.private.Sheet.{enough_bytes}
 use Rattle.rules.proofs.Records.{arguments-few}
-use Rattle.worksheet.proofs.Conversions.{Leaves, leave_same, leave_line, leave_none}
+use Rattle.worksheet.proofs.Conversions.{leave_same, leave_line, leave_none}
 use Rattle.worksheet.proofs.one_call.convert.Goals.{then-operands-i, else-operands-i}
 use Rattle.worksheet.proofs.one_call.convert.Goals as goal
 
@@ -33,7 +28,7 @@ loop-i-preserved c =
     let here = c.loop-i in
     let wanted = c.argument-wanted in
     elim c.if-operands-i.branch [
-      then-operands-i w ↦ (
+      | then-operands-i w ↦ (
         omega arith,
         omega (arith, ap (λ (l : Sheet). l.len) w.lines-is, w.line-lines.ensures.len_is),
         rw w.lines-is (leave_line c.args.operands.now c.args.rule here.i c.requires.taken (omega arith) _ _ _ _

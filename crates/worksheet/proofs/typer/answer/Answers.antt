@@ -2,7 +2,6 @@
 -- Assumes nothing.
 use mathlib.Core.Path.{sym}
 use native.Mathlib.Omega.{arith}
-use borrow.Author.Rules.{rules}
 use lib.ListN.{length-take}
 use Rattle.worksheet.proofs.RootAnswers.{root-wrong, root-short, root-typed}
 use Rattle.worksheet.proofs.typer.answer.Goals as goal

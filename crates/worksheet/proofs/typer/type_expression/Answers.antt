@@ -2,7 +2,6 @@
 -- pass makes it, by the laws of proofs/Whole.antt.
 -- Assumes nothing.
 use mathlib.Core.Path.{sym, ap, ◌∙◌}
-use borrow.Author.Rules.{rules}
 use Rattle.expressions.specs.ReadPaper.{read_paper}
 use Rattle.worksheet.proofs.Whole.{first_fault_lem, root-there, root-fits, root_answer_lem}
 use Rattle.worksheet.proofs.typer.type_expression.Goals as goal

@@ -1,6 +1,5 @@
 -- `line` meets its contract: four bytes are put one behind the other.
 -- Assumes nothing.
-use borrow.Author.Rules.{rules}
 use Rattle.worksheet.proofs.Written.{wrote-both}
 use Rattle.worksheet.proofs.sheet.Sheet.line.Goals as goal
 
