@@ -6,8 +6,6 @@ use mathlib.Core.List.{List, [], ◌∷◌, append-nil}
 use Prim.Native.Nat.{ℕ, zero, suc, ◌+◌, ◌*◌, ◌≤◌, ◌<◌}
 use native.Mathlib.Omega.{arith}
 use native.Mathlib.Numerals.{add-one}
-use types.Run.{OneOf, miss}
-use denote.Enum.Declared.{tag_of}
 use borrow.Author.Tests.{lt-ltb, le-ltb}
 use lib.Dec.{ltb}
 use Rattle.scalars.specs.Mask.{choose}
@@ -22,7 +20,6 @@ use Rattle.expressions.specs.Tree.{Tree, Trees, leaf, call, none, more, count, b
 use Rattle.expressions.specs.Reading.{Reading, done, refused, and_then, demand}
 use Rattle.expressions.specs.private.Step.{levels_left}
 use Rattle.text.specs.declared.token.Token.{Token}
-use Rattle.text.specs.contracts.token.Token as the-token
 use Rattle.text.specs.declared.token.Token.TheVariants.{Open, Close, Comma, Run, End}
 use Rattle.text.specs.declared.reader.Step.{Step}
 use Rattle.text.specs.declared.reader.Step.TheVariants.{Past, Fault}
@@ -51,47 +48,44 @@ call-written d m f k bs =
     ∙ ap (λ i. sets (set (set (set d m call_tag) i f) (m + 2) k) (m + 3) bs) (add-one m)
     ∙ ap₂ (λ i j. sets (set (set (set d m call_tag) (suc m) f) i k) j bs) two three
 
--- ---- a token that is none of those asked for is misplaced; the tags number the variants of `Token` in their order, from 0
-
-abbrev pub Tagged : List ℕ → Token → Type 0
-Tagged tags t = OneOf tags (tag_of the-token.the_type t)
+-- ---- a token that is none of those asked for is misplaced
 
 abbrev pub NoRun : Token → Type 0
-NoRun = Tagged (0 ∷ 1 ∷ 2 ∷ 4 ∷ [])
+NoRun t = (p e : ℕ) → t ≡ Run p e → ⊥
 
 abbrev pub NoOpen : Token → Type 0
-NoOpen = Tagged (1 ∷ 2 ∷ 3 ∷ 4 ∷ [])
+NoOpen t = (p : ℕ) → t ≡ Open p → ⊥
 
 abbrev pub NoClose : Token → Type 0
-NoClose = Tagged (0 ∷ 2 ∷ 3 ∷ 4 ∷ [])
+NoClose t = (p : ℕ) → t ≡ Close p → ⊥
 
 abbrev pub NoMore : Token → Type 0
-NoMore = Tagged (0 ∷ 3 ∷ 4 ∷ [])
+NoMore t = NoClose t × ((p : ℕ) → t ≡ Comma p → ⊥)
 
 run-misplaced : (t : Token) → NoRun t → (k : ℕ → ℕ → Reading Tree) → on_run t k ≡ misplaced t
-run-misplaced (Run p e) h k = absurd (miss (0 ∷ 1 ∷ 2 ∷ 4 ∷ []) 3 tt h)
+run-misplaced (Run p e) h k = absurd (h p e refl)
 run-misplaced (Open p) h k = refl
 run-misplaced (Close p) h k = refl
 run-misplaced (Comma p) h k = refl
 run-misplaced (End p) h k = refl
 
 open_misplaced : (t : Token) → NoOpen t → (k : ℕ → Reading Trees) → on_open t k ≡ misplaced t
-open_misplaced (Open p) h k = absurd (miss (1 ∷ 2 ∷ 3 ∷ 4 ∷ []) 0 tt h)
+open_misplaced (Open p) h k = absurd (h p refl)
 open_misplaced (Close p) h k = refl
 open_misplaced (Comma p) h k = refl
 open_misplaced (Run p e) h k = refl
 open_misplaced (End p) h k = refl
 
 no_close : (t : Token) → NoClose t → (k : ℕ → Reading Trees) (x : Reading Trees) → on_close t k x ≡ x
-no_close (Close p) h k x = absurd (miss (0 ∷ 2 ∷ 3 ∷ 4 ∷ []) 1 tt h)
+no_close (Close p) h k x = absurd (h p refl)
 no_close (Open p) h k x = refl
 no_close (Comma p) h k x = refl
 no_close (Run p e) h k x = refl
 no_close (End p) h k x = refl
 
 more-misplaced : (t : Token) → NoMore t → (k l : ℕ → Reading Trees) → on_more t k l ≡ misplaced t
-more-misplaced (Close p) h k l = absurd (miss (0 ∷ 3 ∷ 4 ∷ []) 1 tt h)
-more-misplaced (Comma p) h k l = absurd (miss (0 ∷ 3 ∷ 4 ∷ []) 2 tt h)
+more-misplaced (Close p) h k l = absurd (h.0 p refl)
+more-misplaced (Comma p) h k l = absurd (h.1 p refl)
 more-misplaced (Open p) h k l = refl
 more-misplaced (Run p e) h k l = refl
 more-misplaced (End p) h k l = refl

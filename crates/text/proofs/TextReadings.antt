@@ -4,7 +4,6 @@ use mathlib.Core.Path.{◌≡◌, refl, sym, ap, ap₂, ◌∙◌, fun_ext}
 use mathlib.Core.List.{List, [], ◌∷◌}
 use Prim.Native.Nat.{ℕ, ◌≤◌, ◌<◌}
 use native.Mathlib.Omega.{arith}
-use types.Run.{miss}
 use borrow.Author.Tests.{lt-ltb, le-ltb}
 use lib.ListN.{length, take}
 use lib.Seq.{length-sets}
@@ -28,7 +27,7 @@ use Rattle.text.specs.Reading.{node_at, at_end, whole, reading_of, reading}
 use Rattle.text.specs.Lent.{made_answer, lent_answer, lent_buffer}
 use Rattle.text.specs.private.ReadStep.{Went, NodeRead}
 use Rattle.text.proofs.Stores.{stored_front}
-use Rattle.text.proofs.ReaderSteps.{Tagged, fault_node, went_node}
+use Rattle.text.proofs.ReaderSteps.{fault_node, went_node}
 
 -- what is answered, and what the lent buffer holds then
 abbrev pub Answers : List ℕ → List ℕ → ℕ → ℕ → Type 0
@@ -37,10 +36,10 @@ Answers s out number place =
 
 -- any token but the end is left over
 abbrev pub NoEnd : Token → Type 0
-NoEnd = Tagged (0 ∷ 1 ∷ 2 ∷ 3 ∷ [])
+NoEnd t = (p : ℕ) → t ≡ End p → ⊥
 
 end-misplaced : (t : Token) → NoEnd t → (look : List ℕ → Named) (s : List ℕ) (e : Tree) → at_end look s e t ≡ refused_as 15 (place t)
-end-misplaced (End p) h look s e = absurd (miss (0 ∷ 1 ∷ 2 ∷ 3 ∷ []) 4 tt h)
+end-misplaced (End p) h look s e = absurd (h p refl)
 end-misplaced (Open p) h look s e = refl
 end-misplaced (Close p) h look s e = refl
 end-misplaced (Comma p) h look s e = refl

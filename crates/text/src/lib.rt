@@ -3,6 +3,8 @@
 // A text is a type's name, a function's name and its arguments in brackets, or `measured` and a type's name:
 // `clamp(abstract-int, measured u32, abstract-int)`. The names come from the crate `names`, the expression's bytes are those of the crate
 // `expressions`.
+#![tactic(auto)]
+
 mod answer;
 mod read;
 mod reader;

@@ -1,0 +1,12 @@
+-- `put_all`'s loop: the bytes that are left, stored from here on, make the whole. The measure is their number.
+use mathlib.Core.Path.{◌≡◌}
+use Prim.Native.Nat.{◌+◌, ◌-◌, ◌≤◌}
+use lib.ListN.{length, drop}
+use lib.Seq.{sets}
+use Rattle.text.proofs.writer.put_all.Given as goal
+
+abbrev pub invariant-loop-i : goal.invariant-loop-i
+invariant-loop-i l = (l.i ≤ length l.bytes) × (sets l.strip (l.at + l.i) (drop l.i l.bytes) ≡ sets l.initial.strip l.at l.bytes)
+
+abbrev pub decreases-loop-i : goal.decreases-loop-i
+decreases-loop-i l = length l.bytes - l.i
