@@ -52,11 +52,7 @@ pub fn azwukran_list_arg_number(
 }
 
 // The members without an abstract argument, as a mask in front of the lent bytes.
-pub fn azwukran_list_concrete_only(
-    rules: &[u8],
-    members: &[u8],
-    out: &mut [u8],
-) -> MaskForC
+pub fn azwukran_list_concrete_only(rules: &[u8], members: &[u8], out: &mut [u8]) -> MaskForC
     ensures answer { result ≡ mask_for_c (in_room (rules_handed rules.now) out.old (members_left (of_list rules.now members.now (list_step keep.Concrete) no_list_values))) }
     ensures lent { out.new ≡ lent_by (rules_handed rules.now) (members_left (of_list rules.now members.now (list_step keep.Concrete) no_list_values)) out.old }
 {
