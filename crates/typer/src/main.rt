@@ -8,7 +8,7 @@
 #![tactic(auto)]
 
 ghost use Rattle.std.specs.Prelude.{◌≡◌, ◌≤◌, length};
-ghost use Rattle.worksheet.specs.private.Sheet.{enoughBytes};
+ghost use Rattle.worksheet.specs.private.Sheet.{enough_bytes};
 
 use expressions::MEASURED_LEAF;
 use scalars::{Refusal, UNUSED};
@@ -86,7 +86,7 @@ fn print_refusal(out: &impl Print, why: Refusal) -> io::Result<()> {
 
 // Room for any worksheet.
 fn room() -> [u8; ENOUGH_BYTES]
-    ensures { enoughBytes ≡ length result }
+    ensures { enough_bytes ≡ length result }
 {
     [0; ENOUGH_BYTES]
 }
