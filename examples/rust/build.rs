@@ -18,10 +18,7 @@ fn main() {
     let file = folder.join(format!("lib{LIBRARY}.a"));
     println!("cargo:rerun-if-changed={}", file.display());
     if !file.exists() {
-        eprintln!(
-            "{} is missing: run './staticlib' at the repository's root, or set AZWUKRAN_LIB_DIR",
-            file.display()
-        );
+        eprintln!("{} is missing: run './staticlib' at the repository's root, or set AZWUKRAN_LIB_DIR", file.display());
         std::process::exit(1);
     }
     println!("cargo:rustc-link-search=native={}", folder.display());
