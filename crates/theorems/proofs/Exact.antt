@@ -118,6 +118,7 @@ module _ (listing_of : ℕ → List Signature) (switch : Bool) where
 
       pub fails-refused : (e : Tree) {at : ℕ} {n p : ℕ} → Fails listing_of switch e at n p
           → type_of listing_of switch e at ≡ refused n p
+      fails-refused (leaf l) h = elim h [ ]
       fails-refused (call f es) (fails_inside h) = rw (fail_among es h)
       fails-refused (call f es) (fails_here {at = at} {os = os} {ls = ls} g w) =
           rw (give_operands es g (inside at))
@@ -125,17 +126,20 @@ module _ (listing_of : ℕ → List Signature) (switch : Bool) where
 
       fail_among : (es : Trees) {at : ℕ} {n p : ℕ} → FailsAmong listing_of switch es at n p
           → type_all listing_of switch es at ≡ refused n p
+      fail_among none h = elim h [ ]
       fail_among (more e es) (fails_first h) = rw (fails-refused e h)
       fail_among (more e es) (fails_later {at = at} g h) = rw (gives-typed e g at, fail_among es h)
 
     -- what fails is stuck, and what is stuck gives nothing
     mutual
       pub fails-stuck : (e : Tree) {at : ℕ} {n p : ℕ} → Fails listing_of switch e at n p → Stuck listing_of switch e
+      fails-stuck (leaf l) h = elim h [ ]
       fails-stuck (call f es) (fails_inside h) = at_argument (fails-stuck-among es h)
       fails-stuck (call f es) (fails_here {at = at} {os = os} g w) =
           at_call g (fault-no_rule (concrete_only switch (any_measured os)) (listing_of f) (codes os) at (starts es (inside at)) (one f) w)
 
       fails-stuck-among : (es : Trees) {at : ℕ} {n p : ℕ} → FailsAmong listing_of switch es at n p → StuckAmong listing_of switch es
+      fails-stuck-among none h = elim h [ ]
       fails-stuck-among (more e es) (fails_first h) = first_stuck (fails-stuck e h)
       fails-stuck-among (more e es) (fails_later g h) = later_stuck (fails-stuck-among es h)
 
@@ -152,10 +156,12 @@ module _ (listing_of : ℕ → List Signature) (switch : Bool) where
 
     mutual
       pub not-both : (e : Tree) {o : Operand} {ls : List Line} → Gives listing_of switch e o ls → Stuck listing_of switch e → ⊥
+      not-both (leaf l) g s = elim s [ ]
       not-both (call f es) (call_gives g b) (at_argument s) = not-both-among es g s
       not-both (call f es) (call_gives g b) (at_call g' n) = no_rule_for f es g b g' n
 
       not-both-among : (es : Trees) {os : List Operand} {ls : List Line} → GiveAll listing_of switch es os ls
           → StuckAmong listing_of switch es → ⊥
+      not-both-among none g s = elim s [ ]
       not-both-among (more e es) (more_give g h) (first_stuck s) = not-both e g s
       not-both-among (more e es) (more_give g h) (later_stuck s) = not-both-among es h s

@@ -9,7 +9,8 @@ use Rattle.rules.specs.declared.rule.Part.TheVariants.{Shape, Number}
 use Rattle.rules.specs.declared.rule.Keep.{Keep}
 use Rattle.rules.specs.declared.rule.Keep.TheVariants.{Argument, Concrete}
 use Rattle.theorems.specs.Expands.{Expands}
-use Rattle.lists.proofs as lists
+use Rattle.lists.specs.contracts as lists
+use Rattle.lists.proofs as lists_proofs
 use Rattle.theorems.specs.ByContract.{Promises}
 use Rattle.theorems.specs.Operations.{Set, regular, Empty, Preferred, Listed, Answer, set, refused, list_answer, InTurn}
 
@@ -34,6 +35,6 @@ Agrees steps (refused v) (set t) = ⊥
 
 abbrev pub Theorem : Type 0
 Theorem =
-    Promises lists.expand.ended lists.expand.Reads.Post
+    Promises lists.expand.ended lists_proofs.expand.Reads.Post
     (λ κs a x _. Expands a.0 → (steps : List Keep) (c d : Answer) → InTurn steps (list_answer x) c
     → InTurn steps (set (regular a.0)) d → Agrees steps c d)

@@ -39,17 +39,19 @@ use Rattle.theorems.specs.Taking.{Survive, Says}
 use Rattle.calls.specs.Call.{answered, with_mark}
 use Rattle.calls.specs.CallPaper.{call_paper}
 use Rattle.calls.specs.SurvivorsPaper.{survivors_paper}
-use Rattle.functions.proofs as functions
-use Rattle.calls.proofs as single
+use Rattle.functions.specs.contracts as functions
+use Rattle.functions.proofs as functions_proofs
+use Rattle.calls.specs.contracts as single
+use Rattle.calls.proofs as single_proofs
 use Rattle.theorems.specs.ByContract.{Promises}
 use Rattle.theorems.specs.InOrder.{FirstWrong, AllRight}
 use Rattle.theorems.specs.Operations.{Set, regular, list, Empty, Least, Most, Preferred, After}
 
 -- the set of a function: what `function_set` answers; where that names a List, what `full_list` answers
 pub data Has (f : ℕ) : Set → Type 0 where
-  its_regular : (r : Regular) → functions.function_set.Reads.Post tt (f, tt) (function.Regular r) (f, tt) → Has f (regular r)
-  its_list : (d : ListFunction) {l : declared.List} → functions.function_set.Reads.Post tt (f, tt) (function.List d) (f, tt)
-      → single.full_list.Reads.Post tt (d, tt) l (d, tt) → Has f (list l)
+  its_regular : (r : Regular) → functions_proofs.function_set.Reads.Post tt (f, tt) (function.Regular r) (f, tt) → Has f (regular r)
+  its_list : (d : ListFunction) {l : declared.List} → functions_proofs.function_set.Reads.Post tt (f, tt) (function.List d) (f, tt)
+      → single_proofs.full_list.Reads.Post tt (d, tt) l (d, tt) → Has f (list l)
 
 -- the steps of a call: each operand at its index, by its shape and by its number, then the concrete-only step if the switch is on
 abbrev pub last_step : Bool → List Keep
@@ -120,8 +122,8 @@ pub record Survivors (switch : Bool) (f : ℕ) (ts ms : List ℕ) (p q : Paper) 
   pub preferred : (m : ℕ) → q ≡ accepted (m ∷ []) → p ≡ with_mark (any_mark ms) (answered (first (select (number 0 (listing_of f)) m)))
 
 pub record Theorem : Type 0 where
-  pub calls : Promises single.call_of.ended single.call_of.Reads.Post
+  pub calls : Promises single.call_of.ended single_proofs.call_of.Reads.Post
       (λ κs a r s. Call a.1.1.1.0 a.0 a.1.0.now a.1.1.0.now (call_paper r))
-  pub survivors : Promises single.survivors_of.ended single.survivors_of.Reads.Post
-      (λ κs a q s. (r : CallAnswer) → single.call_of.Reads.Post κs a r s
+  pub survivors : Promises single.survivors_of.ended single_proofs.survivors_of.Reads.Post
+      (λ κs a q s. (r : CallAnswer) → single_proofs.call_of.Reads.Post κs a r s
       → Survivors a.1.1.1.0 a.0 a.1.0.now a.1.1.0.now (call_paper r) (survivors_paper q))

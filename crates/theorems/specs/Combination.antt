@@ -10,7 +10,8 @@ use Rattle.std.specs.Prelude.{◌≡◌, ◌↔◌, true, false, [], ◌∷◌, 
 use Rattle.scalars.specs.Domain.{converts, scalar_count}
 use Rattle.scalars.specs.Paper.{Paper, accepted, refusal, unused}
 use Rattle.types.specs.TypePaper.{left, right, combination_paper}
-use Rattle.types.proofs as types
+use Rattle.types.specs.contracts as types
+use Rattle.types.proofs as types_proofs
 use Rattle.theorems.specs.ByContract.{Promises}
 
 abbrev pub BothKnown : ℕ → ℕ → Type 0
@@ -25,5 +26,5 @@ pub record Answers (a b : ℕ) (p : Paper) : Type 0 where
 
 abbrev pub Theorem : Type 0
 Theorem =
-    Promises types.automatic_conversion_combine.ended types.automatic_conversion_combine.Reads.Post
+    Promises types.automatic_conversion_combine.ended types_proofs.automatic_conversion_combine.Reads.Post
     (λ κs a r s. Answers a.0.0 a.1.0.0 (combination_paper r))

@@ -21,7 +21,8 @@ use Rattle.types.specs.declared.conversion.Base.{Base}
 use Rattle.types.specs.declared.conversion.Base.TheVariants as base
 use Rattle.types.specs.declared.conversion.Giver.{Giver}
 use Rattle.types.specs.declared.conversion.Giver.TheVariants as giver
-use Rattle.types.proofs as types
+use Rattle.types.specs.contracts as types
+use Rattle.types.proofs as types_proofs
 use Rattle.theorems.specs.ByContract.{Promises}
 use Rattle.theorems.specs.Known.{AllKnown, FirstUnknown}
 
@@ -79,8 +80,8 @@ without_giver (refusal n p vs) = refusal n p (take 1 vs)
 
 pub record Theorem : Type 0 where
   pub answers :
-      Promises types.automatic_conversion_consensus.ended types.automatic_conversion_consensus.Reads.Post
+      Promises types.automatic_conversion_consensus.ended types_proofs.automatic_conversion_consensus.Reads.Post
       (λ κs a r s. Answers a.0 a.1.0.now (consensus_paper r))
   pub scalars :
-      Promises types.automatic_conversion_consensus.ended types.automatic_conversion_consensus.Reads.Post
+      Promises types.automatic_conversion_consensus.ended types_proofs.automatic_conversion_consensus.Reads.Post
       (λ κs a r s. without_giver (consensus_paper r) ≡ agreed a.0 a.1.0.now)

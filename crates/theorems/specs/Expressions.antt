@@ -18,12 +18,14 @@ use Rattle.expressions.specs.Tree.{Tree, bytes_of}
 use Rattle.expressions.specs.Limits.{WellFormed}
 use Rattle.machine.specs.Line.{Line, encode}
 use Rattle.machine.specs.Run.{run_paper}
-use Rattle.machine.proofs as machine
+use Rattle.machine.specs.contracts as machine
+use Rattle.machine.proofs as machine_proofs
 use Rattle.worksheet.specs.declared.typer.TypeAnswer.{TypeAnswer}
 use Rattle.worksheet.specs.private.Sheet.{enough_bytes}
 use Rattle.worksheet.specs.Typing.{no_type, type_values, type_paper}
 use Rattle.theorems.specs.Meaning.{order, own_of, Gives, Stuck}
-use Rattle.worksheet.proofs as worksheet
+use Rattle.worksheet.specs.contracts as worksheet
+use Rattle.worksheet.proofs as worksheet_proofs
 use Rattle.theorems.specs.ByContract.{Promises}
 
 -- s is the bytes of this expression, which is well formed
@@ -45,7 +47,7 @@ module _ (switch : Bool) (s d : List ℕ) where
   pub record Worksheet (d' : List ℕ) (e : Tree) (o : Operand) (ls : List Line) : Type 0 where
     pub in_front : d' ≡ encode ls ++ drop (length (encode ls)) d
     pub its_own : own_of ls ≡ order e
-    pub runs : Promises machine.run_worksheet.ended machine.run_worksheet.Reads.Post
+    pub runs : Promises machine.run_worksheet.ended machine_proofs.run_worksheet.Reads.Post
         (λ κs a q _. a.0.now ≡ take (length (encode ls)) d' → run_paper q ≡ paper.accepted (1 ∷ o.code ∷ mark_of o.measured ∷ []))
 
   pub record Demand3 (r : TypeAnswer) (d' : List ℕ) : Type 0 where
@@ -63,5 +65,5 @@ module _ (switch : Bool) (s d : List ℕ) where
 -- of every call that the contract permits: its bytes, its switch, and its buffer before and after
 abbrev pub Theorem : Type 0
 Theorem =
-    Promises worksheet.type_expression.ended worksheet.type_expression.Reads.Post
+    Promises worksheet.type_expression.ended worksheet_proofs.type_expression.Reads.Post
     (λ κs a r s. Demand3 a.1.0 a.0.now a.1.1.0.now r s.1.1.0.now)

@@ -27,9 +27,12 @@ use Rattle.lists.specs.declared.list.Chosen.{Chosen}
 use Rattle.calls.specs.declared.outcome.CallAnswer.TheVariants.{Called}
 use Rattle.worksheet.specs.declared.typer.TypeAnswer.TheVariants.{Typed}
 use Rattle.machine.specs.declared.machine.Run.TheVariants.{Ended}
-use Rattle.calls.proofs as single
-use Rattle.worksheet.proofs as worksheet
-use Rattle.machine.proofs as machine
+use Rattle.calls.specs.contracts as single
+use Rattle.calls.proofs as single_proofs
+use Rattle.worksheet.specs.contracts as worksheet
+use Rattle.worksheet.proofs as worksheet_proofs
+use Rattle.machine.specs.contracts as machine
+use Rattle.machine.proofs as machine_proofs
 use Rattle.theorems.specs.ByContract.{Promises}
 
 -- a rule has no abstract result, if it has arguments and none of them is abstract
@@ -66,9 +69,9 @@ OfFunctions = ConcreteResults listing_of
 
 -- the functions
 pub record Answers : Type 0 where
-  pub calls : Promises single.call_of.ended single.call_of.Reads.Post
+  pub calls : Promises single.call_of.ended single_proofs.call_of.Reads.Post
       (λ κs a r s. (c : Chosen) → r ≡ Called c true → is_abstract c.rule.result ≡ false)
-  pub expressions : Promises worksheet.type_expression.ended worksheet.type_expression.Reads.Post
+  pub expressions : Promises worksheet.type_expression.ended worksheet_proofs.type_expression.Reads.Post
       (λ κs a r s. (o : Operand) (n : ℕ) → r ≡ Typed o n → measured_abstract o ≡ false)
-  pub runs : Promises machine.run_worksheet.ended machine.run_worksheet.Reads.Post
+  pub runs : Promises machine.run_worksheet.ended machine_proofs.run_worksheet.Reads.Post
       (λ κs a r s. (n t : ℕ) → r ≡ Ended n t measured_mark → is_abstract t ≡ false)

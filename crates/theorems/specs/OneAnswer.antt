@@ -3,30 +3,54 @@
 -- lent slices hold at the end, that the `ensures` clauses permit of these arguments; then the answers are equal, and so are the contents.
 use Rattle.std.specs.Prelude.{◌≡◌}
 use Rattle.theorems.specs.ByContract.{Ended, Post, Lfts, Args, Res, Lasts, at_exit}
-use Rattle.scalars.proofs as scalars
-use Rattle.scalars.proofs.one_bits_iter as one_bits_iter
-use Rattle.scalars.proofs.refusal as refusal
-use Rattle.scalars.proofs.scalar_set as scalar_set
-use Rattle.types.proofs as types
-use Rattle.types.proofs.constructor_set as constructor_set
-use Rattle.types.proofs.operand as operand
-use Rattle.expressions.proofs as expressions
-use Rattle.rules.proofs as rules
-use Rattle.rules.proofs.rule as rule
-use Rattle.regular.proofs.regular as regular
-use Rattle.functions.proofs as functions
-use Rattle.lists.proofs as lists
-use Rattle.lists.proofs.any_overload_set as any_overload_set
-use Rattle.lists.proofs.list as list
-use Rattle.calls.proofs as calls
-use Rattle.lending.proofs as lending
-use Rattle.names.proofs as names
-use Rattle.text.proofs as text
-use Rattle.c_sets.proofs as c_sets
-use Rattle.machine.proofs as machine
-use Rattle.worksheet.proofs as worksheet
-use Rattle.c_answers.proofs as c_answers
-use Rattle.azwukran.proofs as azwukran
+use Rattle.scalars.specs.contracts as scalars
+use Rattle.scalars.proofs as scalars_proofs
+use Rattle.scalars.specs.contracts.one_bits_iter as one_bits_iter
+use Rattle.scalars.proofs.one_bits_iter as one_bits_iter_proofs
+use Rattle.scalars.specs.contracts.refusal as refusal
+use Rattle.scalars.proofs.refusal as refusal_proofs
+use Rattle.scalars.specs.contracts.scalar_set as scalar_set
+use Rattle.scalars.proofs.scalar_set as scalar_set_proofs
+use Rattle.types.specs.contracts as types
+use Rattle.types.proofs as types_proofs
+use Rattle.types.specs.contracts.constructor_set as constructor_set
+use Rattle.types.proofs.constructor_set as constructor_set_proofs
+use Rattle.types.specs.contracts.operand as operand
+use Rattle.types.proofs.operand as operand_proofs
+use Rattle.expressions.specs.contracts as expressions
+use Rattle.expressions.proofs as expressions_proofs
+use Rattle.rules.specs.contracts as rules
+use Rattle.rules.proofs as rules_proofs
+use Rattle.rules.specs.contracts.rule as rule
+use Rattle.rules.proofs.rule as rule_proofs
+use Rattle.regular.specs.contracts.regular as regular
+use Rattle.regular.proofs.regular as regular_proofs
+use Rattle.functions.specs.contracts as functions
+use Rattle.functions.proofs as functions_proofs
+use Rattle.lists.specs.contracts as lists
+use Rattle.lists.proofs as lists_proofs
+use Rattle.lists.specs.contracts.any_overload_set as any_overload_set
+use Rattle.lists.proofs.any_overload_set as any_overload_set_proofs
+use Rattle.lists.specs.contracts.list as list
+use Rattle.lists.proofs.list as list_proofs
+use Rattle.calls.specs.contracts as calls
+use Rattle.calls.proofs as calls_proofs
+use Rattle.lending.specs.contracts as lending
+use Rattle.lending.proofs as lending_proofs
+use Rattle.names.specs.contracts as names
+use Rattle.names.proofs as names_proofs
+use Rattle.text.specs.contracts as text
+use Rattle.text.proofs as text_proofs
+use Rattle.c_sets.specs.contracts as c_sets
+use Rattle.c_sets.proofs as c_sets_proofs
+use Rattle.machine.specs.contracts as machine
+use Rattle.machine.proofs as machine_proofs
+use Rattle.worksheet.specs.contracts as worksheet
+use Rattle.worksheet.proofs as worksheet_proofs
+use Rattle.c_answers.specs.contracts as c_answers
+use Rattle.c_answers.proofs as c_answers_proofs
+use Rattle.azwukran.specs.contracts as azwukran
+use Rattle.azwukran.proofs as azwukran_proofs
 
 -- of a function's parameters and result, and of what its clauses permit; v and w are what lent slices hold at the end
 abbrev pub OneAnswer : (T : Ended) → Post T → Type 0
@@ -37,161 +61,161 @@ OneAnswer T post =
 -- each public function, by crate
 pub record EachFunction : Type 0 where
   -- scalars
-  pub «OneBitsIter::next» : OneAnswer one_bits_iter.OneBitsIter.next.ended one_bits_iter.OneBitsIter.next.Reads.Post
-  pub «OneBit::number» : OneAnswer one_bits_iter.OneBit.number.ended one_bits_iter.OneBit.number.Reads.Post
-  pub members_of : OneAnswer scalars.members_of.ended scalars.members_of.Reads.Post
-  pub no_members : OneAnswer scalars.no_members.ended scalars.no_members.Reads.Post
-  pub «Refusal::number» : OneAnswer refusal.Refusal.number.ended refusal.Refusal.number.Reads.Post
-  pub «Refusal::place» : OneAnswer refusal.Refusal.place.ended refusal.Refusal.place.Reads.Post
-  pub «ScalarSet::singleton» : OneAnswer scalar_set.ScalarSet.singleton.ended scalar_set.ScalarSet.singleton.Reads.Post
-  pub ScalarSet::convertible_from : OneAnswer scalar_set.ScalarSet.convertible_from.ended scalar_set.ScalarSet.convertible_from.Reads.Post
-  pub «ScalarSet::meet» : OneAnswer scalar_set.ScalarSet.meet.ended scalar_set.ScalarSet.meet.Reads.Post
-  pub «ScalarSet::contains» : OneAnswer scalar_set.ScalarSet.contains.ended scalar_set.ScalarSet.contains.Reads.Post
-  pub ScalarSet::most_general_scalar : OneAnswer scalar_set.ScalarSet.most_general_scalar.ended scalar_set.ScalarSet.most_general_scalar.Reads.Post
-  pub «ScalarSet::members» : OneAnswer scalar_set.ScalarSet.members.ended scalar_set.ScalarSet.members.Reads.Post
-  pub «ScalarSet::named» : OneAnswer scalar_set.ScalarSet.named.ended scalar_set.ScalarSet.named.Reads.Post
+  pub «OneBitsIter::next» : OneAnswer one_bits_iter.OneBitsIter.next.ended one_bits_iter_proofs.OneBitsIter.next.Reads.Post
+  pub «OneBit::number» : OneAnswer one_bits_iter.OneBit.number.ended one_bits_iter_proofs.OneBit.number.Reads.Post
+  pub «members_of» : OneAnswer scalars.members_of.ended scalars_proofs.members_of.Reads.Post
+  pub «no_members» : OneAnswer scalars.no_members.ended scalars_proofs.no_members.Reads.Post
+  pub «Refusal::number» : OneAnswer refusal.Refusal.number.ended refusal_proofs.Refusal.number.Reads.Post
+  pub «Refusal::place» : OneAnswer refusal.Refusal.place.ended refusal_proofs.Refusal.place.Reads.Post
+  pub «ScalarSet::singleton» : OneAnswer scalar_set.ScalarSet.singleton.ended scalar_set_proofs.ScalarSet.singleton.Reads.Post
+  pub «ScalarSet::convertible_from» : OneAnswer scalar_set.ScalarSet.convertible_from.ended scalar_set_proofs.ScalarSet.convertible_from.Reads.Post
+  pub «ScalarSet::meet» : OneAnswer scalar_set.ScalarSet.meet.ended scalar_set_proofs.ScalarSet.meet.Reads.Post
+  pub «ScalarSet::contains» : OneAnswer scalar_set.ScalarSet.contains.ended scalar_set_proofs.ScalarSet.contains.Reads.Post
+  pub «ScalarSet::most_general_scalar» : OneAnswer scalar_set.ScalarSet.most_general_scalar.ended scalar_set_proofs.ScalarSet.most_general_scalar.Reads.Post
+  pub «ScalarSet::members» : OneAnswer scalar_set.ScalarSet.members.ended scalar_set_proofs.ScalarSet.members.Reads.Post
+  pub «ScalarSet::named» : OneAnswer scalar_set.ScalarSet.named.ended scalar_set_proofs.ScalarSet.named.Reads.Post
   -- types
-  pub «ConstructorSet::singleton» : OneAnswer constructor_set.ConstructorSet.singleton.ended constructor_set.ConstructorSet.singleton.Reads.Post
-  pub «ConstructorSet::meet» : OneAnswer constructor_set.ConstructorSet.meet.ended constructor_set.ConstructorSet.meet.Reads.Post
-  pub ConstructorSet::is_singleton : OneAnswer constructor_set.ConstructorSet.is_singleton.ended constructor_set.ConstructorSet.is_singleton.Reads.Post
-  pub «ConstructorSet::members» : OneAnswer constructor_set.ConstructorSet.members.ended constructor_set.ConstructorSet.members.Reads.Post
-  pub «Constructor::size» : OneAnswer constructor_set.Constructor.size.ended constructor_set.Constructor.size.Reads.Post
-  pub «ConstructorSet::size» : OneAnswer constructor_set.ConstructorSet.size.ended constructor_set.ConstructorSet.size.Reads.Post
-  pub «ConstructorSet::vecn» : OneAnswer constructor_set.ConstructorSet.vecn.ended constructor_set.ConstructorSet.vecn.Reads.Post
-  pub «ConstructorSize::constructor» : OneAnswer constructor_set.ConstructorSize.constructor.ended constructor_set.ConstructorSize.constructor.Reads.Post
-  pub ConstructorSize::to_inner : OneAnswer constructor_set.ConstructorSize.to_inner.ended constructor_set.ConstructorSize.to_inner.Reads.Post
-  pub automatically_converts_to : OneAnswer types.automatically_converts_to.ended types.automatically_converts_to.Reads.Post
-  pub automatic_conversion_combine : OneAnswer types.automatic_conversion_combine.ended types.automatic_conversion_combine.Reads.Post
-  pub automatic_conversion_consensus : OneAnswer types.automatic_conversion_consensus.ended types.automatic_conversion_consensus.Reads.Post
-  pub code_of : OneAnswer types.code_of.ended types.code_of.Reads.Post
-  pub leaf_scalar : OneAnswer types.leaf_scalar.ended types.leaf_scalar.Reads.Post
-  pub is_abstract : OneAnswer types.is_abstract.ended types.is_abstract.Reads.Post
+  pub «ConstructorSet::singleton» : OneAnswer constructor_set.ConstructorSet.singleton.ended constructor_set_proofs.ConstructorSet.singleton.Reads.Post
+  pub «ConstructorSet::meet» : OneAnswer constructor_set.ConstructorSet.meet.ended constructor_set_proofs.ConstructorSet.meet.Reads.Post
+  pub «ConstructorSet::is_singleton» : OneAnswer constructor_set.ConstructorSet.is_singleton.ended constructor_set_proofs.ConstructorSet.is_singleton.Reads.Post
+  pub «ConstructorSet::members» : OneAnswer constructor_set.ConstructorSet.members.ended constructor_set_proofs.ConstructorSet.members.Reads.Post
+  pub «Constructor::size» : OneAnswer constructor_set.Constructor.size.ended constructor_set_proofs.Constructor.size.Reads.Post
+  pub «ConstructorSet::size» : OneAnswer constructor_set.ConstructorSet.size.ended constructor_set_proofs.ConstructorSet.size.Reads.Post
+  pub «ConstructorSet::vecn» : OneAnswer constructor_set.ConstructorSet.vecn.ended constructor_set_proofs.ConstructorSet.vecn.Reads.Post
+  pub «ConstructorSize::constructor» : OneAnswer constructor_set.ConstructorSize.constructor.ended constructor_set_proofs.ConstructorSize.constructor.Reads.Post
+  pub «ConstructorSize::to_inner» : OneAnswer constructor_set.ConstructorSize.to_inner.ended constructor_set_proofs.ConstructorSize.to_inner.Reads.Post
+  pub «automatically_converts_to» : OneAnswer types.automatically_converts_to.ended types_proofs.automatically_converts_to.Reads.Post
+  pub «automatic_conversion_combine» : OneAnswer types.automatic_conversion_combine.ended types_proofs.automatic_conversion_combine.Reads.Post
+  pub «automatic_conversion_consensus» : OneAnswer types.automatic_conversion_consensus.ended types_proofs.automatic_conversion_consensus.Reads.Post
+  pub «code_of» : OneAnswer types.code_of.ended types_proofs.code_of.Reads.Post
+  pub «leaf_scalar» : OneAnswer types.leaf_scalar.ended types_proofs.leaf_scalar.Reads.Post
+  pub «is_abstract» : OneAnswer types.is_abstract.ended types_proofs.is_abstract.Reads.Post
   -- expressions
-  pub read_expression : OneAnswer expressions.read_expression.ended expressions.read_expression.Reads.Post
-  pub «Operand::of» : OneAnswer operand.Operand.of.ended operand.Operand.of.Reads.Post
-  pub «Operand::mark» : OneAnswer operand.Operand.mark.ended operand.Operand.mark.Reads.Post
-  pub Operand::is_measured_abstract : OneAnswer operand.Operand.is_measured_abstract.ended operand.Operand.is_measured_abstract.Reads.Post
-  pub any_measured : OneAnswer types.any_measured.ended types.any_measured.Reads.Post
-  pub concrete_only : OneAnswer types.concrete_only.ended types.concrete_only.Reads.Post
+  pub «read_expression» : OneAnswer expressions.read_expression.ended expressions_proofs.read_expression.Reads.Post
+  pub «Operand::of» : OneAnswer operand.Operand.of.ended operand_proofs.Operand.of.Reads.Post
+  pub «Operand::mark» : OneAnswer operand.Operand.mark.ended operand_proofs.Operand.mark.Reads.Post
+  pub «Operand::is_measured_abstract» : OneAnswer operand.Operand.is_measured_abstract.ended operand_proofs.Operand.is_measured_abstract.Reads.Post
+  pub «any_measured» : OneAnswer types.any_measured.ended types_proofs.any_measured.Reads.Post
+  pub «concrete_only» : OneAnswer types.concrete_only.ended types_proofs.concrete_only.Reads.Post
   -- rules
-  pub no_rules : OneAnswer rules.no_rules.ended rules.no_rules.Reads.Post
-  pub no_codes : OneAnswer rules.no_codes.ended rules.no_codes.Reads.Post
-  pub no_listing : OneAnswer rules.no_listing.ended rules.no_listing.Reads.Post
-  pub no_types : OneAnswer rules.no_types.ended rules.no_types.Reads.Post
-  pub «Rule::checked» : OneAnswer rule.Rule.checked.ended rule.Rule.checked.Reads.Post
-  pub «Rule::known» : OneAnswer rule.Rule.known.ended rule.Rule.known.Reads.Post
-  pub «Rule::cleaned» : OneAnswer rule.Rule.cleaned.ended rule.Rule.cleaned.Reads.Post
-  pub «Rule::len» : OneAnswer rule.Rule.len.ended rule.Rule.len.Reads.Post
-  pub «Rule::passes» : OneAnswer rule.Rule.passes.ended rule.Rule.passes.Reads.Post
-  pub «Rule::argument» : OneAnswer rule.Rule.argument.ended rule.Rule.argument.Reads.Post
-  pub «reaches» : OneAnswer rules.reaches.ended rules.reaches.Reads.Post
-  pub for_frexp_modf : OneAnswer rules.for_frexp_modf.ended rules.for_frexp_modf.Reads.Post
+  pub «no_rules» : OneAnswer rules.no_rules.ended rules_proofs.no_rules.Reads.Post
+  pub «no_codes» : OneAnswer rules.no_codes.ended rules_proofs.no_codes.Reads.Post
+  pub «no_listing» : OneAnswer rules.no_listing.ended rules_proofs.no_listing.Reads.Post
+  pub «no_types» : OneAnswer rules.no_types.ended rules_proofs.no_types.Reads.Post
+  pub «Rule::checked» : OneAnswer rule.Rule.checked.ended rule_proofs.Rule.checked.Reads.Post
+  pub «Rule::known» : OneAnswer rule.Rule.known.ended rule_proofs.Rule.known.Reads.Post
+  pub «Rule::cleaned» : OneAnswer rule.Rule.cleaned.ended rule_proofs.Rule.cleaned.Reads.Post
+  pub «Rule::len» : OneAnswer rule.Rule.len.ended rule_proofs.Rule.len.Reads.Post
+  pub «Rule::passes» : OneAnswer rule.Rule.passes.ended rule_proofs.Rule.passes.Reads.Post
+  pub «Rule::argument» : OneAnswer rule.Rule.argument.ended rule_proofs.Rule.argument.Reads.Post
+  pub «reaches» : OneAnswer rules.reaches.ended rules_proofs.reaches.Reads.Post
+  pub «for_frexp_modf» : OneAnswer rules.for_frexp_modf.ended rules_proofs.for_frexp_modf.Reads.Post
   -- regular
-  pub «Regular::verdict» : OneAnswer regular.Regular.verdict.ended regular.Regular.verdict.Reads.Post
-  pub Regular::is_empty : OneAnswer regular.Regular.is_empty.ended regular.Regular.is_empty.Reads.Post
-  pub Regular::holds_none : OneAnswer regular.Regular.holds_none.ended regular.Regular.holds_none.Reads.Post
-  pub Regular::min_arguments : OneAnswer regular.Regular.min_arguments.ended regular.Regular.min_arguments.Reads.Post
-  pub Regular::max_arguments : OneAnswer regular.Regular.max_arguments.ended regular.Regular.max_arguments.Reads.Post
-  pub «Regular::arg» : OneAnswer regular.Regular.arg.ended regular.Regular.arg.Reads.Post
-  pub «Regular::narrow» : OneAnswer regular.Regular.narrow.ended regular.Regular.narrow.Reads.Post
-  pub Regular::concrete_only : OneAnswer regular.Regular.concrete_only.ended regular.Regular.concrete_only.Reads.Post
-  pub «Regular::concrete» : OneAnswer regular.Regular.concrete.ended regular.Regular.concrete.Reads.Post
-  pub Regular::most_preferred : OneAnswer regular.Regular.most_preferred.ended regular.Regular.most_preferred.Reads.Post
-  pub Regular::rule_of : OneAnswer regular.Regular.rule_of.ended regular.Regular.rule_of.Reads.Post
-  pub Regular::overload_list : OneAnswer regular.Regular.overload_list.ended regular.Regular.overload_list.Reads.Post
-  pub Regular::allowed_args : OneAnswer regular.Regular.allowed_args.ended regular.Regular.allowed_args.Reads.Post
+  pub «Regular::verdict» : OneAnswer regular.Regular.verdict.ended regular_proofs.Regular.verdict.Reads.Post
+  pub «Regular::is_empty» : OneAnswer regular.Regular.is_empty.ended regular_proofs.Regular.is_empty.Reads.Post
+  pub «Regular::holds_none» : OneAnswer regular.Regular.holds_none.ended regular_proofs.Regular.holds_none.Reads.Post
+  pub «Regular::min_arguments» : OneAnswer regular.Regular.min_arguments.ended regular_proofs.Regular.min_arguments.Reads.Post
+  pub «Regular::max_arguments» : OneAnswer regular.Regular.max_arguments.ended regular_proofs.Regular.max_arguments.Reads.Post
+  pub «Regular::arg» : OneAnswer regular.Regular.arg.ended regular_proofs.Regular.arg.Reads.Post
+  pub «Regular::narrow» : OneAnswer regular.Regular.narrow.ended regular_proofs.Regular.narrow.Reads.Post
+  pub «Regular::concrete_only» : OneAnswer regular.Regular.concrete_only.ended regular_proofs.Regular.concrete_only.Reads.Post
+  pub «Regular::concrete» : OneAnswer regular.Regular.concrete.ended regular_proofs.Regular.concrete.Reads.Post
+  pub «Regular::most_preferred» : OneAnswer regular.Regular.most_preferred.ended regular_proofs.Regular.most_preferred.Reads.Post
+  pub «Regular::rule_of» : OneAnswer regular.Regular.rule_of.ended regular_proofs.Regular.rule_of.Reads.Post
+  pub «Regular::overload_list» : OneAnswer regular.Regular.overload_list.ended regular_proofs.Regular.overload_list.Reads.Post
+  pub «Regular::allowed_args» : OneAnswer regular.Regular.allowed_args.ended regular_proofs.Regular.allowed_args.Reads.Post
   -- functions
-  pub rule_at : OneAnswer functions.rule_at.ended functions.rule_at.Reads.Post
-  pub rule_count : OneAnswer functions.rule_count.ended functions.rule_count.Reads.Post
-  pub listed_rule : OneAnswer functions.listed_rule.ended functions.listed_rule.Reads.Post
-  pub function_set : OneAnswer functions.function_set.ended functions.function_set.Reads.Post
-  pub rule_total : OneAnswer functions.rule_total.ended functions.rule_total.Reads.Post
+  pub «rule_at» : OneAnswer functions.rule_at.ended functions_proofs.rule_at.Reads.Post
+  pub «rule_count» : OneAnswer functions.rule_count.ended functions_proofs.rule_count.Reads.Post
+  pub «listed_rule» : OneAnswer functions.listed_rule.ended functions_proofs.listed_rule.Reads.Post
+  pub «function_set» : OneAnswer functions.function_set.ended functions_proofs.function_set.Reads.Post
+  pub «rule_total» : OneAnswer functions.rule_total.ended functions_proofs.rule_total.Reads.Post
   -- lists
-  pub AnyOverloadSet::from_regular : OneAnswer any_overload_set.AnyOverloadSet.from_regular.ended any_overload_set.AnyOverloadSet.from_regular.Reads.Post
-  pub AnyOverloadSet::from_list : OneAnswer any_overload_set.AnyOverloadSet.from_list.ended any_overload_set.AnyOverloadSet.from_list.Reads.Post
-  pub AnyOverloadSet::is_empty : OneAnswer any_overload_set.AnyOverloadSet.is_empty.ended any_overload_set.AnyOverloadSet.is_empty.Reads.Post
-  pub AnyOverloadSet::min_arguments : OneAnswer any_overload_set.AnyOverloadSet.min_arguments.ended any_overload_set.AnyOverloadSet.min_arguments.Reads.Post
-  pub AnyOverloadSet::max_arguments : OneAnswer any_overload_set.AnyOverloadSet.max_arguments.ended any_overload_set.AnyOverloadSet.max_arguments.Reads.Post
-  pub «AnyOverloadSet::arg» : OneAnswer any_overload_set.AnyOverloadSet.arg.ended any_overload_set.AnyOverloadSet.arg.Reads.Post
-  pub AnyOverloadSet::concrete_only : OneAnswer any_overload_set.AnyOverloadSet.concrete_only.ended any_overload_set.AnyOverloadSet.concrete_only.Reads.Post
-  pub AnyOverloadSet::most_preferred : OneAnswer any_overload_set.AnyOverloadSet.most_preferred.ended any_overload_set.AnyOverloadSet.most_preferred.Reads.Post
-  pub AnyOverloadSet::overload_list : OneAnswer any_overload_set.AnyOverloadSet.overload_list.ended any_overload_set.AnyOverloadSet.overload_list.Reads.Post
-  pub AnyOverloadSet::allowed_args : OneAnswer any_overload_set.AnyOverloadSet.allowed_args.ended any_overload_set.AnyOverloadSet.allowed_args.Reads.Post
-  pub «expand» : OneAnswer lists.expand.ended lists.expand.Reads.Post
-  pub List::from_rules : OneAnswer list.List.from_rules.ended list.List.from_rules.Reads.Post
-  pub «List::checked» : OneAnswer list.List.checked.ended list.List.checked.Reads.Post
-  pub «List::arg» : OneAnswer list.List.arg.ended list.List.arg.Reads.Post
-  pub List::concrete_only : OneAnswer list.List.concrete_only.ended list.List.concrete_only.Reads.Post
-  pub List::is_empty : OneAnswer list.List.is_empty.ended list.List.is_empty.Reads.Post
-  pub List::min_arguments : OneAnswer list.List.min_arguments.ended list.List.min_arguments.Reads.Post
-  pub List::max_arguments : OneAnswer list.List.max_arguments.ended list.List.max_arguments.Reads.Post
-  pub List::most_preferred : OneAnswer list.List.most_preferred.ended list.List.most_preferred.Reads.Post
-  pub List::overload_list : OneAnswer list.List.overload_list.ended list.List.overload_list.Reads.Post
-  pub List::allowed_args : OneAnswer list.List.allowed_args.ended list.List.allowed_args.Reads.Post
-  pub «List::rule» : OneAnswer list.List.rule.ended list.List.rule.Reads.Post
-  pub «filter» : OneAnswer lists.filter.ended lists.filter.Reads.Post
-  pub filter_both : OneAnswer lists.filter_both.ended lists.filter_both.Reads.Post
-  pub «longest» : OneAnswer lists.longest.ended lists.longest.Reads.Post
+  pub «AnyOverloadSet::from_regular» : OneAnswer any_overload_set.AnyOverloadSet.from_regular.ended any_overload_set_proofs.AnyOverloadSet.from_regular.Reads.Post
+  pub «AnyOverloadSet::from_list» : OneAnswer any_overload_set.AnyOverloadSet.from_list.ended any_overload_set_proofs.AnyOverloadSet.from_list.Reads.Post
+  pub «AnyOverloadSet::is_empty» : OneAnswer any_overload_set.AnyOverloadSet.is_empty.ended any_overload_set_proofs.AnyOverloadSet.is_empty.Reads.Post
+  pub «AnyOverloadSet::min_arguments» : OneAnswer any_overload_set.AnyOverloadSet.min_arguments.ended any_overload_set_proofs.AnyOverloadSet.min_arguments.Reads.Post
+  pub «AnyOverloadSet::max_arguments» : OneAnswer any_overload_set.AnyOverloadSet.max_arguments.ended any_overload_set_proofs.AnyOverloadSet.max_arguments.Reads.Post
+  pub «AnyOverloadSet::arg» : OneAnswer any_overload_set.AnyOverloadSet.arg.ended any_overload_set_proofs.AnyOverloadSet.arg.Reads.Post
+  pub «AnyOverloadSet::concrete_only» : OneAnswer any_overload_set.AnyOverloadSet.concrete_only.ended any_overload_set_proofs.AnyOverloadSet.concrete_only.Reads.Post
+  pub «AnyOverloadSet::most_preferred» : OneAnswer any_overload_set.AnyOverloadSet.most_preferred.ended any_overload_set_proofs.AnyOverloadSet.most_preferred.Reads.Post
+  pub «AnyOverloadSet::overload_list» : OneAnswer any_overload_set.AnyOverloadSet.overload_list.ended any_overload_set_proofs.AnyOverloadSet.overload_list.Reads.Post
+  pub «AnyOverloadSet::allowed_args» : OneAnswer any_overload_set.AnyOverloadSet.allowed_args.ended any_overload_set_proofs.AnyOverloadSet.allowed_args.Reads.Post
+  pub «expand» : OneAnswer lists.expand.ended lists_proofs.expand.Reads.Post
+  pub «List::from_rules» : OneAnswer list.List.from_rules.ended list_proofs.List.from_rules.Reads.Post
+  pub «List::checked» : OneAnswer list.List.checked.ended list_proofs.List.checked.Reads.Post
+  pub «List::arg» : OneAnswer list.List.arg.ended list_proofs.List.arg.Reads.Post
+  pub «List::concrete_only» : OneAnswer list.List.concrete_only.ended list_proofs.List.concrete_only.Reads.Post
+  pub «List::is_empty» : OneAnswer list.List.is_empty.ended list_proofs.List.is_empty.Reads.Post
+  pub «List::min_arguments» : OneAnswer list.List.min_arguments.ended list_proofs.List.min_arguments.Reads.Post
+  pub «List::max_arguments» : OneAnswer list.List.max_arguments.ended list_proofs.List.max_arguments.Reads.Post
+  pub «List::most_preferred» : OneAnswer list.List.most_preferred.ended list_proofs.List.most_preferred.Reads.Post
+  pub «List::overload_list» : OneAnswer list.List.overload_list.ended list_proofs.List.overload_list.Reads.Post
+  pub «List::allowed_args» : OneAnswer list.List.allowed_args.ended list_proofs.List.allowed_args.Reads.Post
+  pub «List::rule» : OneAnswer list.List.rule.ended list_proofs.List.rule.Reads.Post
+  pub «filter» : OneAnswer lists.filter.ended lists_proofs.filter.Reads.Post
+  pub «filter_both» : OneAnswer lists.filter_both.ended lists_proofs.filter_both.Reads.Post
+  pub «longest» : OneAnswer lists.longest.ended lists_proofs.longest.Reads.Post
   -- calls
-  pub call_of : OneAnswer calls.call_of.ended calls.call_of.Reads.Post
-  pub outcome_of : OneAnswer calls.outcome_of.ended calls.outcome_of.Reads.Post
-  pub survivors_of : OneAnswer calls.survivors_of.ended calls.survivors_of.Reads.Post
-  pub full_list : OneAnswer calls.full_list.ended calls.full_list.Reads.Post
-  pub none_left : OneAnswer calls.none_left.ended calls.none_left.Reads.Post
+  pub «call_of» : OneAnswer calls.call_of.ended calls_proofs.call_of.Reads.Post
+  pub «outcome_of» : OneAnswer calls.outcome_of.ended calls_proofs.outcome_of.Reads.Post
+  pub «survivors_of» : OneAnswer calls.survivors_of.ended calls_proofs.survivors_of.Reads.Post
+  pub «full_list» : OneAnswer calls.full_list.ended calls_proofs.full_list.Reads.Post
+  pub «none_left» : OneAnswer calls.none_left.ended calls_proofs.none_left.Reads.Post
   -- lending
-  pub lend_bytes : OneAnswer lending.lend_bytes.ended lending.lend_bytes.Reads.Post
-  pub mask_in : OneAnswer lending.mask_in.ended lending.mask_in.Reads.Post
-  pub lend_mask : OneAnswer lending.lend_mask.ended lending.lend_mask.Reads.Post
+  pub «lend_bytes» : OneAnswer lending.lend_bytes.ended lending_proofs.lend_bytes.Reads.Post
+  pub «mask_in» : OneAnswer lending.mask_in.ended lending_proofs.mask_in.Reads.Post
+  pub «lend_mask» : OneAnswer lending.lend_mask.ended lending_proofs.lend_mask.Reads.Post
   -- names
-  pub built_in_names : OneAnswer names.built_in_names.ended names.built_in_names.Reads.Post
-  pub built_in_index : OneAnswer names.built_in_index.ended names.built_in_index.Reads.Post
+  pub «built_in_names» : OneAnswer names.built_in_names.ended names_proofs.built_in_names.Reads.Post
+  pub «built_in_index» : OneAnswer names.built_in_index.ended names_proofs.built_in_index.Reads.Post
   -- of a part that is handed out, its bytes: no contract speaks of where they stand
   pub «spelling» : (κs : Lfts (names.spelling.ended).signature.lifetimes) (a : Args (names.spelling.ended).signature κs)
       (x y : Res (names.spelling.ended).signature κs) (v w : Lasts names.spelling.ended κs a)
-      → names.spelling.Reads.Post κs a x (at_exit names.spelling.ended κs a v)
-      → names.spelling.Reads.Post κs a y (at_exit names.spelling.ended κs a w) → (x.now ≡ y.now) × (v ≡ w)
-  pub word_of : OneAnswer names.word_of.ended names.word_of.Reads.Post
-  pub measured_name : OneAnswer names.measured_name.ended names.measured_name.Reads.Post
-  pub is_measured : OneAnswer names.is_measured.ended names.is_measured.Reads.Post
+      → names_proofs.spelling.Reads.Post κs a x (at_exit names.spelling.ended κs a v)
+      → names_proofs.spelling.Reads.Post κs a y (at_exit names.spelling.ended κs a w) → (x.now ≡ y.now) × (v ≡ w)
+  pub «word_of» : OneAnswer names.word_of.ended names_proofs.word_of.Reads.Post
+  pub «measured_name» : OneAnswer names.measured_name.ended names_proofs.measured_name.Reads.Post
+  pub «is_measured» : OneAnswer names.is_measured.ended names_proofs.is_measured.Reads.Post
   -- text
-  pub read_text : OneAnswer text.read_text.ended text.read_text.Reads.Post
-  pub write_text : OneAnswer text.write_text.ended text.write_text.Reads.Post
+  pub «read_text» : OneAnswer text.read_text.ended text_proofs.read_text.Reads.Post
+  pub «write_text» : OneAnswer text.write_text.ended text_proofs.write_text.Reads.Post
   -- c_sets
-  pub list_arg : OneAnswer c_sets.list_arg.ended c_sets.list_arg.Reads.Post
-  pub list_concrete_only : OneAnswer c_sets.list_concrete_only.ended c_sets.list_concrete_only.Reads.Post
-  pub list_preferred : OneAnswer c_sets.list_preferred.ended c_sets.list_preferred.Reads.Post
-  pub rules_in : OneAnswer c_sets.rules_in.ended c_sets.rules_in.Reads.Post
-  pub regular_from : OneAnswer c_sets.regular_from.ended c_sets.regular_from.Reads.Post
-  pub regular_arg : OneAnswer c_sets.regular_arg.ended c_sets.regular_arg.Reads.Post
-  pub regular_concrete_only : OneAnswer c_sets.regular_concrete_only.ended c_sets.regular_concrete_only.Reads.Post
-  pub regular_preferred : OneAnswer c_sets.regular_preferred.ended c_sets.regular_preferred.Reads.Post
-  pub regular_rule : OneAnswer c_sets.regular_rule.ended c_sets.regular_rule.Reads.Post
+  pub «list_arg» : OneAnswer c_sets.list_arg.ended c_sets_proofs.list_arg.Reads.Post
+  pub «list_concrete_only» : OneAnswer c_sets.list_concrete_only.ended c_sets_proofs.list_concrete_only.Reads.Post
+  pub «list_preferred» : OneAnswer c_sets.list_preferred.ended c_sets_proofs.list_preferred.Reads.Post
+  pub «rules_in» : OneAnswer c_sets.rules_in.ended c_sets_proofs.rules_in.Reads.Post
+  pub «regular_from» : OneAnswer c_sets.regular_from.ended c_sets_proofs.regular_from.Reads.Post
+  pub «regular_arg» : OneAnswer c_sets.regular_arg.ended c_sets_proofs.regular_arg.Reads.Post
+  pub «regular_concrete_only» : OneAnswer c_sets.regular_concrete_only.ended c_sets_proofs.regular_concrete_only.Reads.Post
+  pub «regular_preferred» : OneAnswer c_sets.regular_preferred.ended c_sets_proofs.regular_preferred.Reads.Post
+  pub «regular_rule» : OneAnswer c_sets.regular_rule.ended c_sets_proofs.regular_rule.Reads.Post
   -- machine
-  pub run_worksheet : OneAnswer machine.run_worksheet.ended machine.run_worksheet.Reads.Post
+  pub «run_worksheet» : OneAnswer machine.run_worksheet.ended machine_proofs.run_worksheet.Reads.Post
   -- worksheet
-  pub type_expression : OneAnswer worksheet.type_expression.ended worksheet.type_expression.Reads.Post
+  pub «type_expression» : OneAnswer worksheet.type_expression.ended worksheet_proofs.type_expression.Reads.Post
   -- c_answers
-  pub chosen_for_c : OneAnswer c_answers.chosen_for_c.ended c_answers.chosen_for_c.Reads.Post
-  pub call_for_c : OneAnswer c_answers.call_for_c.ended c_answers.call_for_c.Reads.Post
-  pub rule_for_c : OneAnswer c_answers.rule_for_c.ended c_answers.rule_for_c.Reads.Post
-  pub regular_for_c : OneAnswer c_answers.regular_for_c.ended c_answers.regular_for_c.Reads.Post
-  pub consensus_for_c : OneAnswer c_answers.consensus_for_c.ended c_answers.consensus_for_c.Reads.Post
-  pub mask_for_c : OneAnswer c_answers.mask_for_c.ended c_answers.mask_for_c.Reads.Post
+  pub «chosen_for_c» : OneAnswer c_answers.chosen_for_c.ended c_answers_proofs.chosen_for_c.Reads.Post
+  pub «call_for_c» : OneAnswer c_answers.call_for_c.ended c_answers_proofs.call_for_c.Reads.Post
+  pub «rule_for_c» : OneAnswer c_answers.rule_for_c.ended c_answers_proofs.rule_for_c.Reads.Post
+  pub «regular_for_c» : OneAnswer c_answers.regular_for_c.ended c_answers_proofs.regular_for_c.Reads.Post
+  pub «consensus_for_c» : OneAnswer c_answers.consensus_for_c.ended c_answers_proofs.consensus_for_c.Reads.Post
+  pub «mask_for_c» : OneAnswer c_answers.mask_for_c.ended c_answers_proofs.mask_for_c.Reads.Post
   -- azwukran
-  pub azwukran_list_arg_shape : OneAnswer azwukran.azwukran_list_arg_shape.ended azwukran.azwukran_list_arg_shape.Reads.Post
-  pub azwukran_list_arg_number : OneAnswer azwukran.azwukran_list_arg_number.ended azwukran.azwukran_list_arg_number.Reads.Post
-  pub azwukran_list_concrete_only : OneAnswer azwukran.azwukran_list_concrete_only.ended azwukran.azwukran_list_concrete_only.Reads.Post
-  pub azwukran_list_preferred : OneAnswer azwukran.azwukran_list_preferred.ended azwukran.azwukran_list_preferred.Reads.Post
-  pub azwukran_regular_arg_shape : OneAnswer azwukran.azwukran_regular_arg_shape.ended azwukran.azwukran_regular_arg_shape.Reads.Post
-  pub azwukran_regular_arg_number : OneAnswer azwukran.azwukran_regular_arg_number.ended azwukran.azwukran_regular_arg_number.Reads.Post
-  pub azwukran_regular_concrete_only : OneAnswer azwukran.azwukran_regular_concrete_only.ended azwukran.azwukran_regular_concrete_only.Reads.Post
-  pub azwukran_regular_preferred : OneAnswer azwukran.azwukran_regular_preferred.ended azwukran.azwukran_regular_preferred.Reads.Post
-  pub azwukran_regular_rule : OneAnswer azwukran.azwukran_regular_rule.ended azwukran.azwukran_regular_rule.Reads.Post
-  pub azwukran_call : OneAnswer azwukran.azwukran_call.ended azwukran.azwukran_call.Reads.Post
-  pub azwukran_survivors : OneAnswer azwukran.azwukran_survivors.ended azwukran.azwukran_survivors.Reads.Post
-  pub azwukran_rule : OneAnswer azwukran.azwukran_rule.ended azwukran.azwukran_rule.Reads.Post
-  pub azwukran_consensus : OneAnswer azwukran.azwukran_consensus.ended azwukran.azwukran_consensus.Reads.Post
-  pub azwukran_type : OneAnswer azwukran.azwukran_type.ended azwukran.azwukran_type.Reads.Post
-  pub azwukran_read_text : OneAnswer azwukran.azwukran_read_text.ended azwukran.azwukran_read_text.Reads.Post
-  pub azwukran_write_text : OneAnswer azwukran.azwukran_write_text.ended azwukran.azwukran_write_text.Reads.Post
-  pub azwukran_run : OneAnswer azwukran.azwukran_run.ended azwukran.azwukran_run.Reads.Post
+  pub «azwukran_list_arg_shape» : OneAnswer azwukran.azwukran_list_arg_shape.ended azwukran_proofs.azwukran_list_arg_shape.Reads.Post
+  pub «azwukran_list_arg_number» : OneAnswer azwukran.azwukran_list_arg_number.ended azwukran_proofs.azwukran_list_arg_number.Reads.Post
+  pub «azwukran_list_concrete_only» : OneAnswer azwukran.azwukran_list_concrete_only.ended azwukran_proofs.azwukran_list_concrete_only.Reads.Post
+  pub «azwukran_list_preferred» : OneAnswer azwukran.azwukran_list_preferred.ended azwukran_proofs.azwukran_list_preferred.Reads.Post
+  pub «azwukran_regular_arg_shape» : OneAnswer azwukran.azwukran_regular_arg_shape.ended azwukran_proofs.azwukran_regular_arg_shape.Reads.Post
+  pub «azwukran_regular_arg_number» : OneAnswer azwukran.azwukran_regular_arg_number.ended azwukran_proofs.azwukran_regular_arg_number.Reads.Post
+  pub «azwukran_regular_concrete_only» : OneAnswer azwukran.azwukran_regular_concrete_only.ended azwukran_proofs.azwukran_regular_concrete_only.Reads.Post
+  pub «azwukran_regular_preferred» : OneAnswer azwukran.azwukran_regular_preferred.ended azwukran_proofs.azwukran_regular_preferred.Reads.Post
+  pub «azwukran_regular_rule» : OneAnswer azwukran.azwukran_regular_rule.ended azwukran_proofs.azwukran_regular_rule.Reads.Post
+  pub «azwukran_call» : OneAnswer azwukran.azwukran_call.ended azwukran_proofs.azwukran_call.Reads.Post
+  pub «azwukran_survivors» : OneAnswer azwukran.azwukran_survivors.ended azwukran_proofs.azwukran_survivors.Reads.Post
+  pub «azwukran_rule» : OneAnswer azwukran.azwukran_rule.ended azwukran_proofs.azwukran_rule.Reads.Post
+  pub «azwukran_consensus» : OneAnswer azwukran.azwukran_consensus.ended azwukran_proofs.azwukran_consensus.Reads.Post
+  pub «azwukran_type» : OneAnswer azwukran.azwukran_type.ended azwukran_proofs.azwukran_type.Reads.Post
+  pub «azwukran_read_text» : OneAnswer azwukran.azwukran_read_text.ended azwukran_proofs.azwukran_read_text.Reads.Post
+  pub «azwukran_write_text» : OneAnswer azwukran.azwukran_write_text.ended azwukran_proofs.azwukran_write_text.Reads.Post
+  pub «azwukran_run» : OneAnswer azwukran.azwukran_run.ended azwukran_proofs.azwukran_run.Reads.Post

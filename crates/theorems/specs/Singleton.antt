@@ -15,8 +15,10 @@ use Rattle.std.specs.Int.Count.{ones}
 use Rattle.scalars.specs.declared.one_bits_iter.OneBit.{OneBit}
 use Rattle.scalars.specs.declared.one_bits_iter.OneBitsIter.{OneBitsIter}
 use Rattle.scalars.specs.declared.one_bits_iter.BitStep.TheVariants.{Bit}
-use Rattle.scalars.proofs.one_bits_iter as one_bits_iter
-use Rattle.types.proofs.constructor_set as constructor_set
+use Rattle.scalars.specs.contracts.one_bits_iter as one_bits_iter
+use Rattle.scalars.proofs.one_bits_iter as one_bits_iter_proofs
+use Rattle.types.specs.contracts.constructor_set as constructor_set
+use Rattle.types.proofs.constructor_set as constructor_set_proofs
 use Rattle.theorems.specs.ByContract.{Promises}
 use Rattle.theorems.specs.Taking.{bit}
 
@@ -49,8 +51,8 @@ pub record Theorem : Type 0 where
   pub masks : (w m : ℕ) → m < 2 ^ w → OfMask w m
   pub none : OfNone
   pub asked :
-      Promises constructor_set.ConstructorSet.is_singleton.ended constructor_set.ConstructorSet.is_singleton.Reads.Post
+      Promises constructor_set.ConstructorSet.is_singleton.ended constructor_set_proofs.ConstructorSet.is_singleton.Reads.Post
       (λ κs a r s. r ≡ true ↔ OneMember 16 a.0.0)
   pub walked :
-      Promises one_bits_iter.OneBitsIter.next.ended one_bits_iter.OneBitsIter.next.Reads.Post
+      Promises one_bits_iter.OneBitsIter.next.ended one_bits_iter_proofs.OneBitsIter.next.Reads.Post
       (λ κs a r s. (b : OneBit) (left : OneBitsIter) → a.0.0 < 2 ^ 64 → r ≡ Bit b left → left.0 ≡ bit_and a.0.0 (a.0.0 - 1))

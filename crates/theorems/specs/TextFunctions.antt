@@ -21,7 +21,8 @@ use Rattle.text.specs.declared.answer.TextAnswer.{TextAnswer}
 use Rattle.text.specs.Grammar.{most_bytes, Spells}
 use Rattle.text.specs.TextPaper.{text_paper}
 use Rattle.text.specs.Writing.{text_of}
-use Rattle.text.proofs as text
+use Rattle.text.specs.contracts as text
+use Rattle.text.proofs as text_proofs
 use Rattle.theorems.specs.ByContract.{Promises}
 use Rattle.theorems.specs.Texts.{FirstFault}
 
@@ -48,11 +49,11 @@ pub record Writes (b d : List ℕ) (r : TextAnswer) (d' : List ℕ) : Type 0 whe
   pub within : (e : Tree) → expression_of function_count b ≡ read e → length (text_of e) ≤ most_bytes
   pub faulty : (n p : ℕ) → expression_of function_count b ≡ refused_as n p → text_paper r ≡ paper.refusal n p (unused ∷ [])
   pub back : (n : ℕ) → text_paper r ≡ paper.accepted (n ∷ [])
-      → Promises text.read_text.ended text.read_text.Reads.Post
+      → Promises text.read_text.ended text_proofs.read_text.Reads.Post
       (λ κs a q v. a.0.now ≡ take n d' → length b ≤ length a.1.0.now
       → (text_paper q ≡ paper.accepted (length b ∷ [])) × (take (length b) v.1.0.now ≡ b))
 
 -- of every call that the contracts permit: its text or bytes, and its buffer before and after
 pub record Theorem : Type 0 where
-  pub reads : Promises text.read_text.ended text.read_text.Reads.Post (λ κs a r v. Reads a.0.now a.1.0.now r v.1.0.now)
-  pub writes : Promises text.write_text.ended text.write_text.Reads.Post (λ κs a r v. Writes a.0.now a.1.0.now r v.1.0.now)
+  pub reads : Promises text.read_text.ended text_proofs.read_text.Reads.Post (λ κs a r v. Reads a.0.now a.1.0.now r v.1.0.now)
+  pub writes : Promises text.write_text.ended text_proofs.write_text.Reads.Post (λ κs a r v. Writes a.0.now a.1.0.now r v.1.0.now)

@@ -15,7 +15,8 @@ use Rattle.lists.specs.declared.list.Chosen.{Chosen}
 use Rattle.calls.specs.declared.outcome.CallAnswer.{CallAnswer}
 use Rattle.calls.specs.declared.outcome.CallAnswer.TheVariants.{Called}
 use Rattle.calls.specs.declared.call.Survivors.TheVariants.{Members}
-use Rattle.calls.proofs as single
+use Rattle.calls.specs.contracts as single
+use Rattle.calls.proofs as single_proofs
 use Rattle.theorems.specs.ByContract.{Promises}
 use Rattle.theorems.specs.Taking.{Taken, Best, bit}
 use Rattle.theorems.specs.Wgsl.{over_wgsl, Outranks, Ranked}
@@ -61,6 +62,6 @@ pub record CallByRank (f : ℕ) (ts : List ℕ) (c : Chosen) (m : ℕ) : Type 0 
 -- of the answers of `survivors_of` and `call_of` to the same arguments
 abbrev pub Answers : Type 0
 Answers =
-    Promises single.survivors_of.ended single.survivors_of.Reads.Post
-    (λ κs a q s. (r : CallAnswer) → single.call_of.Reads.Post κs a r s → over_wgsl a.1.0.now ≡ true
+    Promises single.survivors_of.ended single_proofs.survivors_of.Reads.Post
+    (λ κs a q s. (r : CallAnswer) → single_proofs.call_of.Reads.Post κs a r s → over_wgsl a.1.0.now ≡ true
     → (c : Chosen) (measured : Bool) → r ≡ Called c measured → (m : ℕ) → q ≡ Members m → CallByRank a.0 a.1.0.now c m)
