@@ -1,6 +1,6 @@
--- What a contract permits. Of each function the prover has its parameters and result, `ended`, and what its `ensures` clauses say,
--- `Reads.Post`: a claim about lifetimes, the arguments, the answer, and the parameters at the end. Theorems are said of these, so that
--- whoever weakens a clause finds them false.
+-- What a contract permits. Of each function F of a crate C the prover makes `Rattle.C.specs.contracts.F.ended`, its parameters and result,
+-- and `Rattle.C.proofs.F.Reads.Post`, what its `ensures` clauses say: a claim about lifetimes, the arguments, the answer, and the
+-- parameters at the end. Theorems are said of these, so that whoever weakens a clause finds them false.
 pub use contract.Lifetimes.{Lfts}
 pub use denote.Triple.Entry.{Args, Res}
 pub use denote.Triple.Clauses.{Ended, AtExit, Lasts, at_exit}
