@@ -12,7 +12,6 @@ use lib.Dec.{ltb, eqb}
 use lib.ListN.{length}
 use Rattle.types.specs.Operand.{operands_of, codes, any_measured, any_mark, concrete_only}
 use Rattle.types.proofs.Operands.{codes-beside, measured-beside}
-use Rattle.scalars.specs.Mask.{choose}
 use Rattle.scalars.specs.Paper.{Paper, accepted, refusal}
 use Rattle.functions.specs.Functions.{function_count, listing_of}
 use Rattle.lists.specs.ChosenPaper.{no_choice}

@@ -39,7 +39,6 @@ use Rattle.theorems.specs.Taking.{Survive, Says}
 use Rattle.calls.specs.Call.{answered, with_mark}
 use Rattle.calls.specs.CallPaper.{call_paper}
 use Rattle.calls.specs.SurvivorsPaper.{survivors_paper}
-use Rattle.functions.specs.contracts as functions
 use Rattle.functions.proofs as functions_proofs
 use Rattle.calls.specs.contracts as single
 use Rattle.calls.proofs as single_proofs

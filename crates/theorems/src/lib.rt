@@ -1,1 +1,3 @@
+#![tactic(auto)]
+
 // No functions: theorems about the answers of the crates below. specs/ states them, proofs/ proves them.
