@@ -1,10 +1,9 @@
 // A file of stored answers, and its records: each is two bytes of length, the low one first, and that many bytes.
 
-ghost use Rattle.std.specs.Prelude.{◌≡◌, ◌≤◌, length, take, IfOk};
+ghost use Rattle.std.specs.Prelude.{◌≡◌, ◌≤◌, length, take};
 
+use input::read_full;
 use std::fs::File;
-use std::io;
-use std::io::Read;
 use std::rt::Files;
 
 // A part of a file, from one offset up to another.
@@ -34,21 +33,6 @@ pub fn load(files: &impl Files, path: &str, into: &mut [u8]) -> usize
         return 0;
     }
     n
-}
-
-// Reads until `into` is full or the input ends, and answers how many bytes were put at the start of `into`.
-fn read_full(input: &mut impl Read, into: &mut [u8]) -> io::Result<usize>
-    ensures { IfOk result (λ n. n ≤ length into.new) }
-{
-    let mut done = 0;
-    for _ in 0..u64::MAX {
-        let n = input.read(&mut into[done..])?;
-        if n == 0 {
-            break;
-        }
-        done += n;
-    }
-    Ok(done)
 }
 
 // Where the bytes of the record at `at` stand. They start past `at`, but where the file is cut short: there the answer is 0 to 0.

@@ -4,18 +4,19 @@
 
 ghost use Rattle.std.specs.Prelude.{◌≤◌, length};
 
+use input::read_full;
 use std::io;
-use std::io::{Print, Read};
+use std::io::Print;
 use text::{TextAnswer, write_text};
 
 // The most bytes that are read.
-const MOST_READ: u64 = 4096;
+const MOST_READ: usize = 4096;
 
 fn main(rt: HostRuntime) -> io::Result<()> {
-    let mut input = Vec::new(rt.alloc());
-    rt.stdin().take(MOST_READ).read_to_end(&mut input)?;
+    let mut space = [0; MOST_READ];
+    let n = read_full(&mut rt.stdin(), &mut space)?;
     let mut text = [0; 4096];
-    answer(&rt, &input, &mut text)
+    answer(&rt, &space[..n], &mut text)
 }
 
 // Writes the expression into the text and prints what came out. No text has more than 4,096 bytes, so the room always suffices.

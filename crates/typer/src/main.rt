@@ -11,24 +11,25 @@ ghost use Rattle.std.specs.Prelude.{◌≡◌, ◌≤◌, length};
 ghost use Rattle.worksheet.specs.private.Sheet.{enough_bytes};
 
 use expressions::MEASURED_LEAF;
+use input::read_full;
 use scalars::{Refusal, UNUSED};
 use std::io;
-use std::io::{Print, Read, Stdin};
+use std::io::{Print, Stdin};
 use text::{TextAnswer, read_text};
 use worksheet::{ENOUGH_BYTES, TypeAnswer, type_expression};
 
 // The most bytes of the input that are kept.
-const MOST_KEPT: u64 = 65536;
+const MOST_KEPT: usize = 65536;
 
 // The bytes of a line.
 const LINE: usize = 4;
 
 fn main(rt: HostRuntime) -> io::Result<()> {
-    let mut input = Vec::new(rt.alloc());
-    rt.stdin().take(MOST_KEPT).read_to_end(&mut input)?;
+    let mut space = [0; MOST_KEPT];
+    let n = read_full(&mut rt.stdin(), &mut space)?;
     skip_rest(rt.stdin())?;
     let mut sheet = room();
-    answer(&rt, &input, &mut sheet)
+    answer(&rt, &space[..n], &mut sheet)
 }
 
 // Types the input, in either form, into the sheet and prints what came out.
