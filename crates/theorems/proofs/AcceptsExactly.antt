@@ -1,5 +1,5 @@
--- The first pass accepts exactly the bytes of the well_formed expressions: it reads the tree e from a byte string if and only if the byte
--- string is the bytes of e and e is well_formed. The bytes of any other tree within the limits are refused with 17. This holds for every
+-- The first pass accepts exactly the bytes of the well-formed expressions: it reads the tree e from a byte string if and only if the byte
+-- string is the bytes of e and e is well-formed. The bytes of any other tree within the limits are refused with 17. This holds for every
 -- number of known functions. Assumes nothing.
 use mathlib.Core.Path.{◌≡◌, sym, ap, ◌∙◌}
 use mathlib.Core.List.{List, [], append-nil}

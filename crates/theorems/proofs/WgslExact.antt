@@ -68,7 +68,7 @@ all_shown : every shown scalars ≡ true
 unfolding converts
 all_shown = refl
 
--- WGSL's concrete scalars below it that the operand reaches are its stand_ins_lem
+-- WGSL's concrete scalars below it that the operand reaches are its stand-ins
 abbrev stands : ℕ → ℕ → Bool
 stands s u = lacking s (implies (both (leb u s) (both (converts (shows s) u) (not (abstract? u)))) (among (stand_ins s) u))
 

@@ -2,11 +2,11 @@
 -- says it of trees, over the definitions. Take any bytes s, either position of the concrete-only switch and any lent buffer d, and any
 -- answer r and final buffer d' that the promise of `type_expression` permits for them.
 --
--- The answer is accepted with the type and mark of an operand o and length n exactly when s is the bytes of a well_formed expression that
+-- The answer is accepted with the type and mark of an operand o and length n exactly when s is the bytes of a well-formed expression that
 -- gives o, each call in it by the first rule that takes its operands, by lines of n bytes that d has room for. Then d' begins with the bytes of these lines,
 -- and behind them it is as d was; the lines' leaves and calls are the expression's own, marks included, in order; and any answer that the promise of
 -- `run_worksheet` permits for these very bytes of d' is the end, with one operand, of o's type and mark. Where d has room for what s gives, the
--- answer is refused exactly when s is the bytes of no well_formed expression, or of one in which some call has no rule for the number,
+-- answer is refused exactly when s is the bytes of no well-formed expression, or of one in which some call has no rule for the number,
 -- types and marks of its operands. Where d has too little room for what s gives, the answer is refusal 10, at the bytes needed; 508
 -- bytes always suffice. On every refusal d' is d.
 use Rattle.std.specs.Prelude.{◌≡◌, ◌↔◌, ◌⊎◌, Bool, List, [], ◌∷◌, ◌++◌, ℕ, ◌≤◌, ◌<◌, length, take, drop}
