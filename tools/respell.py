@@ -1,14 +1,14 @@
 #!/usr/bin/env python3
 """Respells this repository's own definitions and lemmas as today's Rattle spells names.
 
-usage: tools/respell.py        at the top of a repository that port.py has turned, once; it rewrites files below crates/
+usage: tools/respell.py [PATH]     at the top of a repository that port.py has turned, once; it rewrites files below crates/
 
 Words are in snake case, so `scalarCount` becomes `scalar_count`. In a lemma's name a dash stays where it joins two names that are
-declared or imported, as in `bits-length`; a plain word is added by `_`, as in `walked_bits`. Names of types and modules, names that
-come from the source, names with `?` at the end and what a `?` follows keep their form. A word of the library is never touched: a name
-that a file imports from it is left as it stands. A prime is an apostrophe. The names turned are those declared in specs/ and in the
-lemma files of proofs/, in all .antt files, in the ghost text of .rt files and in must-fail edits. The path of a declared name
-`Contracts` in specs/ is respelled too, since Rattle makes a module of that name: the file becomes `ByContract`.
+declared or imported, as in `bits-length`; a plain word is added by `_`, as in `walked_bits`. A lemma that would have a definition's
+name ends in `_lem`. A prime is an apostrophe. Names of types and modules, names that come from the source, and what stands in quotes
+keep their spelling, and so does a word of the library. The names turned are those that specs/ and the lemma files of proofs/ declare;
+they are turned in all .antt files, in .rt files and in must-fail edits. A file specs/Contracts.antt becomes ByContract.antt, since
+Rattle makes a module of that name. Given a path, it writes the names there, old and new, and else to standard output.
 """
 import glob
 import os
