@@ -1,6 +1,7 @@
 -- An answer whose value is a mask over n rules, where the mask goes into lent bytes.
-use Rattle.std.specs.Prelude.{List, [], ◌∷◌, ℕ, get_or}
-use Rattle.scalars.specs.Paper.{Paper, accepted, refusal, when_accepted}
+use Rattle.std.specs.Prelude.{List, [], ◌∷◌, ℕ, get_or, Result}
+use Rattle.scalars.specs.Paper.{Paper, accepted, refusal, when_accepted, answer_paper}
+use Rattle.scalars.specs.declared.refusal.Refusal.{Refusal}
 use Rattle.lending.specs.Masks.{room_for, lent_after}
 
 -- its own refusal, then 10 with the bytes needed where there are fewer
@@ -15,3 +16,7 @@ lent_by n (refusal k p vs) out = out
 -- the mask of the members, of a List that is answered
 abbrev pub members_left : Paper → Paper
 members_left p = when_accepted p (λ vs. accepted (get_or vs 1 0 ∷ [])) (0 ∷ [])
+
+-- a mask that is answered; a refusal's is empty
+abbrev pub mask_left : Result ℕ Refusal → Paper
+mask_left = answer_paper (λ m. m ∷ []) (0 ∷ [])

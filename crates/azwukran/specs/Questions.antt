@@ -1,8 +1,7 @@
 -- What the numbers mean that a caller hands in.
-use Rattle.std.specs.Prelude.{Bool, not, ℕ, eqb}
+use Rattle.std.specs.Prelude.{Bool, not, ℕ, eqb, Option, Some, None}
 use Rattle.scalars.specs.Mask.{choose}
-use Rattle.types.specs.declared.conversion.Base.{Base}
-use Rattle.types.specs.declared.conversion.Base.TheVariants as base
+use Rattle.scalars.specs.declared.scalar_set.Scalar.{Scalar}
 
 -- 0 is off, anything else on
 abbrev pub on : ℕ → Bool
@@ -12,5 +11,5 @@ on switch = not (eqb switch 0)
 abbrev pub no_base : ℕ
 no_base = 255
 
-unfoldable pub base_of : ℕ → Base
-base_of n = choose (eqb n no_base) base.Nothing (base.Scalar (record { 0 = n }))
+unfoldable pub base_of : ℕ → Option Scalar
+base_of n = choose (eqb n no_base) None (Some (record { 0 = n }))

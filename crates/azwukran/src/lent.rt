@@ -1,37 +1,22 @@
-// Answers whose value is a mask of rules, which goes into lent bytes.
+// A mask of rules that is answered, put into lent bytes.
 
 ghost use Rattle.std.specs.Prelude.{◌≡◌};
-ghost use Rattle.calls.specs.SurvivorsPaper.{survivors_paper};
-ghost use Rattle.lists.specs.ChosenPaper.{list_paper};
-ghost use Rattle.c_answers.specs.Answers.{mask_for_c};
-ghost use Rattle.azwukran.specs.Lent.{members_left, in_room, lent_by};
+ghost use Rattle.scalars.specs.Paper.{verdict_paper};
+ghost use Rattle.azwukran.specs.Lent.{mask_left, in_room, lent_by};
 
-use c_answers::{MaskForC, mask_for_c};
-use calls::Survivors;
 use lending::lend_mask;
-use lists::ListAnswer;
-use scalars::Verdict;
+use scalars::Refusal;
 
-// The survivors of a call, among so many rules.
-pub(crate) fn lend_survivors(survivors: Survivors, rules: usize, out: &mut [u8]) -> MaskForC
-    ensures answer { result ≡ mask_for_c (in_room rules out.old (survivors_paper survivors)) }
-    ensures lent { out.new ≡ lent_by rules (survivors_paper survivors) out.old }
+// The mask, over so many rules, goes in front of the lent bytes. Refused as the mask is, then 10 with the bytes needed where there are
+// fewer; the lent bytes are then as they were.
+#[tactic(auto, unfolding(crate::specs::Lent::in_room, crate::specs::Lent::lent_by))]
+pub(crate) fn lend_answer(
+    mask: Result<u64, Refusal>,
+    rules: usize,
+    out: &mut [u8],
+) -> Result<(), Refusal>
+    ensures answer { verdict_paper result ≡ in_room rules out.old (mask_left mask) }
+    ensures lent { out.new ≡ lent_by rules (mask_left mask) out.old }
 {
-    match survivors {
-        Survivors::Refused(why) => mask_for_c(Verdict::Refused(why)),
-        Survivors::Members(members) => mask_for_c(lend_mask(members, rules, out)),
-    }
-}
-
-// The members of a List of so many rules.
-pub(crate) fn lend_members(left: ListAnswer, rules: usize, out: &mut [u8]) -> MaskForC
-    ensures answer { result ≡ mask_for_c (in_room rules out.old (members_left (list_paper left))) }
-    ensures lent { out.new ≡ lent_by rules (members_left (list_paper left)) out.old }
-{
-    let verdict = left.answer;
-    let list = left.list;
-    match verdict {
-        Verdict::Refused(why) => mask_for_c(Verdict::Refused(why)),
-        Verdict::Accepted => mask_for_c(lend_mask(list.members, rules, out)),
-    }
+    lend_mask(mask?, rules, out)
 }

@@ -1,21 +1,24 @@
 // Lists made by hand: a question hands the rules in as bytes, six a rule (four arguments, their count, the result), and the members as a
-// mask in bytes. A step writes the mask of those that are left into lent bytes, so a caller hands it in again for the next step.
+// mask in bytes. A step writes the mask of those that are left into lent bytes, so a caller hands it in again for the next step. Rules and
+// members stand apart in each signature, as the C interface has them.
 
 ghost use Rattle.std.specs.Prelude.{◌≡◌};
 ghost use Rattle.rules.specs.declared.rule.Part.TheVariants as part;
 ghost use Rattle.rules.specs.declared.rule.Keep.TheVariants as keep;
-ghost use Rattle.lists.specs.ChosenPaper.{no_choice};
+ghost use Rattle.lists.specs.ChosenPaper.{list_paper, no_choice};
 ghost use Rattle.lists.specs.List.{no_list_values, list_arg, list_step, list_preferred};
 ghost use Rattle.c_sets.specs.Sets.{rules_handed, of_list};
 ghost use Rattle.c_answers.specs.Answers.{chosen_for_c, mask_for_c};
 ghost use Rattle.azwukran.specs.Lent.{members_left, in_room, lent_by};
 
-use crate::lent::lend_members;
-use c_answers::{ChosenForC, MaskForC, chosen_for_c};
-use c_sets::{RULE_BYTES, list_arg, list_concrete_only, list_preferred};
+use crate::lent::lend_answer;
+use c_answers::{ChosenForC, MaskForC};
+use c_sets::{ListParts, RULE_BYTES};
+use lists::List;
 use rules::Part;
+use scalars::Refusal;
 
-// The members with the constructor of an argument's type, as a mask in front of the lent bytes.
+// The members with the constructor of an argument's type, as a mask in front of the lent bytes. The C interface has a function for each part.
 pub fn azwukran_list_arg_shape(
     rules: &[u8],
     members: &[u8],
@@ -26,11 +29,8 @@ pub fn azwukran_list_arg_shape(
     ensures answer { result ≡ mask_for_c (in_room (rules_handed rules.now) out.old (members_left (of_list rules.now members.now (list_arg part.Shape index code) no_list_values))) }
     ensures lent { out.new ≡ lent_by (rules_handed rules.now) (members_left (of_list rules.now members.now (list_arg part.Shape index code) no_list_values)) out.old }
 {
-    lend_members(
-        list_arg(rules, members, Part::Shape, index, code),
-        handed(rules),
-        out,
-    )
+    let left = ListParts { rules, members }.arg(Part::Shape, index, code);
+    lend_members(left, rules, out)
 }
 
 // The members with a scalar that an argument's type converts to, as a mask in front of the lent bytes.
@@ -44,11 +44,8 @@ pub fn azwukran_list_arg_number(
     ensures answer { result ≡ mask_for_c (in_room (rules_handed rules.now) out.old (members_left (of_list rules.now members.now (list_arg part.Number index code) no_list_values))) }
     ensures lent { out.new ≡ lent_by (rules_handed rules.now) (members_left (of_list rules.now members.now (list_arg part.Number index code) no_list_values)) out.old }
 {
-    lend_members(
-        list_arg(rules, members, Part::Number, index, code),
-        handed(rules),
-        out,
-    )
+    let left = ListParts { rules, members }.arg(Part::Number, index, code);
+    lend_members(left, rules, out)
 }
 
 // The members without an abstract argument, as a mask in front of the lent bytes.
@@ -56,19 +53,22 @@ pub fn azwukran_list_concrete_only(rules: &[u8], members: &[u8], out: &mut [u8])
     ensures answer { result ≡ mask_for_c (in_room (rules_handed rules.now) out.old (members_left (of_list rules.now members.now (list_step keep.Concrete) no_list_values))) }
     ensures lent { out.new ≡ lent_by (rules_handed rules.now) (members_left (of_list rules.now members.now (list_step keep.Concrete) no_list_values)) out.old }
 {
-    lend_members(list_concrete_only(rules, members), handed(rules), out)
+    let left = ListParts { rules, members }.concrete_only();
+    lend_members(left, rules, out)
 }
 
 // The first member, with its index among the rules.
 pub fn azwukran_list_preferred(rules: &[u8], members: &[u8]) -> ChosenForC
     ensures { result ≡ chosen_for_c (of_list rules.now members.now list_preferred no_choice) }
 {
-    chosen_for_c(list_preferred(rules, members))
+    ListParts { rules, members }.preferred().into()
 }
 
-// How many rules were handed in.
-fn handed(rules: &[u8]) -> usize
-    ensures { result ≡ rules_handed rules.now }
+// The mask of the members that a step leaves, over the rules that were handed in.
+fn lend_members(left: Result<List, Refusal>, rules: &[u8], out: &mut [u8]) -> MaskForC
+    ensures answer { result ≡ mask_for_c (in_room (rules_handed rules.now) out.old (members_left (list_paper left))) }
+    ensures lent { out.new ≡ lent_by (rules_handed rules.now) (members_left (list_paper left)) out.old }
 {
-    rules.len() / RULE_BYTES
+    let handed = rules.len() / RULE_BYTES;
+    lend_answer(left.map(|list| list.members), handed, out).into()
 }

@@ -1,4 +1,4 @@
-// The structs, one for each kind of answer.
+// The structs, one for each kind of answer. Kinds, marks and refusals are numbers here, since these are the C interface's.
 
 use scalars::UNUSED;
 

@@ -11,6 +11,3 @@ pub use answers::{
     ChosenForC, ConsensusForC, MaskForC, NO_VALUE, RegularForC, RuleForC, RunForC, STOPPED,
     TextForC, TypeForC,
 };
-pub use from_answers::{
-    call_for_c, chosen_for_c, consensus_for_c, mask_for_c, regular_for_c, rule_for_c,
-};

@@ -7,14 +7,11 @@ use native.Mathlib.Omega.{arith}
 use lib.Dec.{eqb}
 use lib.ListN.{length, get_or}
 use Rattle.scalars.specs.Mask.{choose}
-use Rattle.scalars.specs.Paper.{Paper, accepted, refusal, values, refused, beside, verdict_paper, when_accepted}
-use Rattle.scalars.specs.declared.answer.Verdict.{Verdict}
-use Rattle.scalars.specs.declared.answer.Verdict.TheVariants.{Accepted, Refused}
+use Rattle.scalars.specs.Paper.{Paper, accepted, refusal, values, refused, when_accepted}
 use Rattle.scalars.specs.declared.refusal.Refusal.{Refusal}
-use Rattle.lists.specs.ChosenPaper.{list_values, list_paper}
-use Rattle.lists.specs.List.{accepted_list, no_list_values}
+use Rattle.lists.specs.ChosenPaper.{list_values, no_list_values}
+use Rattle.lists.specs.List.{accepted_list}
 use Rattle.lists.specs.declared.list.List.{List}
-use Rattle.lists.specs.declared.list.ListAnswer.{ListAnswer}
 use Rattle.lists.proofs.ChosenPapers.{list_values-one}
 use Rattle.lending.specs.Masks.{mask_read}
 use Rattle.c_sets.specs.Sets.{byte_rules, rules_handed, of_list}
@@ -43,12 +40,13 @@ module _ (s ms : L.List ℕ) where
 
   -- ---- asking it
 
-  module _ (made : ListAnswer) (ask : List → Paper) (none : L.List ℕ) where
-    refused_by : (b : Bool) (p : Paper) (why : Refusal) (vs : L.List ℕ) → refused why vs ≡ asked_by b p accepted_list no_list_values → refused why none ≡ asked_by b p ask none
+  module _ (ask : List → Paper) (none : L.List ℕ) where
+    refused_by : (b : Bool) (p : Paper) (why : Refusal) → refused why no_list_values ≡ asked_by b p accepted_list no_list_values
+        → refused why none ≡ asked_by b p ask none
     unfolding accepted_list
-    refused_by true (accepted ws) why vs e = let z : ◌≡◌ {A = ℕ} 0 1 = cc in absurd (omega arith)
-    refused_by true (refusal n p ws) why vs e = cc
-    refused_by false p why vs e = cc
+    refused_by true (accepted ws) why e = let z : ◌≡◌ {A = ℕ} 0 1 = cc in absurd (omega arith)
+    refused_by true (refusal n p ws) why e = cc
+    refused_by false p why e = cc
 
     accepted_by : (b : Bool) (p : Paper) (l : List) → accepted (list_values l) ≡ asked_by b p accepted_list no_list_values → ask l ≡ asked_by b p ask none
     unfolding accepted_list
@@ -56,14 +54,10 @@ module _ (s ms : L.List ℕ) where
     accepted_by true (refusal n p ws) l e = let z : ◌≡◌ {A = ℕ} 0 1 = cc in absurd (omega arith)
     accepted_by false p l e = let z : ◌≡◌ {A = ℕ} 0 1 = cc in absurd (omega arith)
 
-    module _ (is : list_paper made ≡ of_list s ms accepted_list no_list_values) where
-      told : {v : Verdict} → made.answer ≡ v → beside (verdict_paper v) (list_values made.list) ≡ of_list s ms accepted_list no_list_values
-      told h = ap (λ (v : Verdict). beside (verdict_paper v) (list_values made.list)) (sym h) ∙ is
+    pub asked-refused : (why : Refusal) → refused why no_list_values ≡ of_list s ms accepted_list no_list_values → refused why none ≡ of_list s ms ask none
+    unfolding of_list
+    asked-refused why e = refused_by (eqb (length s % 6) 0) (mask_read (rules_handed s) ms) why e
 
-      pub asked-refused : {why : Refusal} → made.answer ≡ Refused why → refused why none ≡ of_list s ms ask none
-      unfolding of_list
-      asked-refused {why} h = refused_by (eqb (length s % 6) 0) (mask_read (rules_handed s) ms) why (list_values made.list) (told h)
-
-      pub asked-accepted : made.answer ≡ Accepted → {p : Paper} → p ≡ ask made.list → p ≡ of_list s ms ask none
-      unfolding of_list
-      asked-accepted h e = e ∙ accepted_by (eqb (length s % 6) 0) (mask_read (rules_handed s) ms) made.list (told h)
+    pub asked-accepted : {l : List} → accepted (list_values l) ≡ of_list s ms accepted_list no_list_values → {p : Paper} → p ≡ ask l → p ≡ of_list s ms ask none
+    unfolding of_list
+    asked-accepted {l} e is = is ∙ accepted_by (eqb (length s % 6) 0) (mask_read (rules_handed s) ms) l e

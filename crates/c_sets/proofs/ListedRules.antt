@@ -7,16 +7,13 @@ use native.Mathlib.Nat.{le_of_suc-le-suc, not-suc-le-zero}
 use native.Mathlib.Omega.{arith}
 use lib.ListN.{length, get_or, drop, length-map, get_or-append}
 use Rattle.scalars.specs.Mask.{choose, padded}
-use Rattle.scalars.specs.Paper.{Paper, accepted, refusal, values, refused, beside, count_paper}
-use Rattle.scalars.specs.declared.answer.CountAnswer.{CountAnswer}
-use Rattle.scalars.specs.declared.answer.CountAnswer.TheVariants as count
+use Rattle.scalars.specs.Paper.{Paper, accepted, refusal, values, refused}
 use Rattle.scalars.specs.declared.refusal.Refusal.{Refusal}
 use Rattle.rules.specs.Signature.{Signature}
 use Rattle.rules.specs.Rule.{blank_rule, rule_of}
-use Rattle.rules.specs.RulePaper.{rule_values, no_rule, rules_values, listing_paper}
+use Rattle.rules.specs.RulePaper.{rule_values, no_rule, rules_values, no_listing}
 use Rattle.rules.specs.Verdict.{on_verdict}
-use Rattle.rules.specs.Listing.{accepted_listing, no_listing}
-use Rattle.rules.specs.declared.listing.Listing.{Listing}
+use Rattle.rules.specs.Listing.{accepted_listing}
 use Rattle.rules.specs.declared.rule.Rule.{Rule}
 use Rattle.rules.proofs.RulePapers.{rules-one}
 use Rattle.regular.specs.Regular.{regular_verdict, regular_rules, all_conclude, regular_listing}
@@ -54,19 +51,16 @@ module _ (rs : List Signature) (i : ℕ) where
   counted_by (accepted ws) false vs e = let z : ◌≡◌ {A = ℕ} 0 1 = cc in absurd (omega arith)
   counted_by (refusal n p ws) b vs e = let z : ◌≡◌ {A = ℕ} 0 1 = cc in absurd (omega arith)
 
-module _ (r : Regular) (l : Listing) (asked : listing_paper l ≡ regular_listing r) (i : ℕ) where
-  told : {a : CountAnswer} → l.answer ≡ a → beside (count_paper a) (rules_values l.rules) ≡ regular_listing r
-  told h = ap (λ (a : CountAnswer). beside (count_paper a) (rules_values l.rules)) (sym h) ∙ asked
-
-  pub listed-refused : {why : Refusal} → l.answer ≡ count.Refused why → refused why no_rule ≡ regular_rule_at i r
+module _ (r : Regular) (i : ℕ) where
+  pub listed-refused : (why : Refusal) → refused why no_listing ≡ regular_listing r → refused why no_rule ≡ regular_rule_at i r
   unfolding regular_listing concluded_listing regular_rule_at
-  listed-refused {why} h = refused_by (regular_rules r) i (regular_verdict r) (all_conclude r) why (255 ∷ rules_values l.rules) (told h)
+  listed-refused why e = refused_by (regular_rules r) i (regular_verdict r) (all_conclude r) why no_listing e
 
-  module _ {n : ℕ} (h : l.answer ≡ count.Count n) where
-    both_told : (n ∷ rules_values l.rules ≡ length (regular_rules r) ∷ rules_values (padded 156 blank_rule (map rule_of (regular_rules r))))
+  module _ {n : ℕ} (rs : List Rule) (asked : accepted (n ∷ rules_values rs) ≡ regular_listing r) where
+    both_told : (n ∷ rules_values rs ≡ length (regular_rules r) ∷ rules_values (padded 156 blank_rule (map rule_of (regular_rules r))))
         × (rule_in (regular_rules r) i ≡ regular_rule_at i r)
     unfolding regular_listing concluded_listing regular_rule_at
-    both_told = counted_by (regular_rules r) i (regular_verdict r) (all_conclude r) (n ∷ rules_values l.rules) (told h)
+    both_told = counted_by (regular_rules r) i (regular_verdict r) (all_conclude r) (n ∷ rules_values rs) asked
 
     count-is : n ≡ length (regular_rules r)
     count-is = ap (λ vs. get_or vs 0 0) both_told.0
@@ -77,12 +71,12 @@ module _ (r : Regular) (l : Listing) (asked : listing_paper l ≡ regular_listin
     pub listed-past : n ≤ i → refusal 7 1 no_rule ≡ regular_rule_at i r
     listed-past p = sym (rule-past (regular_rules r) i (omega (arith, count-is))) ∙ both_told.1
 
-    pub listed_here : (d : Rule) → i < n → accepted (rule_values (get_or l.rules i d)) ≡ regular_rule_at i r
+    pub listed_here : (d : Rule) → i < n → accepted (rule_values (get_or rs i d)) ≡ regular_rule_at i r
     listed_here d p =
         let rules = map rule_of (regular_rules r) in
         let q : i < length rules = omega (arith, count-is, length-map (regular_rules r) rule_of) in
         ap (λ (x : Rule). accepted (rule_values x))
-        (ap (λ (xs : List Rule). get_or xs i d) (rules-one l.rules (padded 156 blank_rule rules) (ap (drop 1) both_told.0))
+        (ap (λ (xs : List Rule). get_or xs i d) (rules-one rs (padded 156 blank_rule rules) (ap (drop 1) both_told.0))
         ∙ get_or-append rules _ d i q
         ∙ same-entry d blank_rule rules i q)
         ∙ sym (rule-here (regular_rules r) i (omega (arith, count-is)))

@@ -5,7 +5,5 @@
 mod list_parts;
 mod regular_parts;
 
-pub use list_parts::{RULE_BYTES, list_arg, list_concrete_only, list_preferred, rules_in};
-pub use regular_parts::{
-    regular_arg, regular_concrete_only, regular_from, regular_preferred, regular_rule,
-};
+pub use list_parts::{ListParts, RULE_BYTES, rules_in};
+pub use regular_parts::RegularParts;

@@ -3,151 +3,82 @@
 
 ghost use Rattle.std.specs.Prelude.{◌≡◌};
 ghost use Rattle.rules.specs.RulePaper.{rule_paper, no_rule};
-ghost use Rattle.regular.specs.Regular.{regular_of, checked_regular, regular_arg, regular_concrete, regular_preferred};
-ghost use Rattle.regular.specs.SetPaper.{regular_paper, conclusion_of, no_set};
+ghost use Rattle.regular.specs.Regular.{checked_regular, regular_arg, regular_concrete, regular_preferred};
+ghost use Rattle.regular.specs.SetPaper.{set_paper, regular_paper, no_set};
 ghost use Rattle.c_sets.specs.Sets.{of_regular, regular_rule_at};
 
-use regular::{ConclusionRule, Regular, RegularAnswer};
-use rules::{Part, RuleAnswer};
-use scalars::{CountAnswer, Refusal, ScalarSet, Verdict};
+use regular::{ConclusionRule, Regular};
+use rules::{Part, Rule};
+use scalars::{Refusal, ScalarSet};
 use types::ConstructorSet;
 
-// How many conclusions there are.
-const CONCLUSION_COUNT: u8 = 10;
-
-// The set itself. Refused as `Regular::verdict` is.
-pub fn regular_from(
-    arity: u8,
-    constructors: ConstructorSet,
-    scalars: ScalarSet,
-    conclusion: u8,
-) -> RegularAnswer
-    ensures { regular_paper result ≡ of_regular arity constructors.0 scalars.0 conclusion checked_regular no_set }
-{
-    if CONCLUSION_COUNT <= conclusion {
-        return RegularAnswer::Refused(Refusal::Unknown(0));
-    }
-    let set = regular_in(arity, constructors, scalars, conclusion);
-    match set.verdict() {
-        Verdict::Refused(why) => RegularAnswer::Refused(why),
-        Verdict::Accepted => RegularAnswer::Set(set),
-    }
+#[derive(Clone, Copy)]
+pub struct RegularParts {
+    pub arity: u8,
+    pub constructors: ConstructorSet,
+    pub scalars: ScalarSet,
+    // The number of the conclusion.
+    pub conclusion: u8,
 }
 
-// The set that a part of an argument's type leaves. Refused as `Regular::arg` is.
-pub fn regular_arg(
-    arity: u8,
-    constructors: ConstructorSet,
-    scalars: ScalarSet,
-    conclusion: u8,
-    part: Part,
-    index: usize,
-    code: u8,
-) -> RegularAnswer
-    ensures { regular_paper result ≡ of_regular arity constructors.0 scalars.0 conclusion (regular_arg part index code) no_set }
-{
-    if CONCLUSION_COUNT <= conclusion {
-        return RegularAnswer::Refused(Refusal::Unknown(0));
+impl RegularParts {
+    // The set itself. Refused as `Regular::verdict` is; a set of either kind is made by the same two lines.
+    pub fn set(self) -> Result<Regular, Refusal>
+        ensures { regular_paper result ≡ of_regular self.arity self.constructors.0 self.scalars.0 self.conclusion checked_regular no_set }
+    {
+        let set = self.handed_in()?;
+        set.verdict()?;
+        Ok(set)
     }
-    regular_in(arity, constructors, scalars, conclusion).arg(part, index, code)
-}
 
-// The set without its abstract scalars. Refused as `Regular::concrete_only` is.
-pub fn regular_concrete_only(
-    arity: u8,
-    constructors: ConstructorSet,
-    scalars: ScalarSet,
-    conclusion: u8,
-) -> RegularAnswer
-    ensures { regular_paper result ≡ of_regular arity constructors.0 scalars.0 conclusion regular_concrete no_set }
-{
-    if CONCLUSION_COUNT <= conclusion {
-        return RegularAnswer::Refused(Refusal::Unknown(0));
+    // The set that a part of an argument's type leaves. Refused as `Regular::arg` is.
+    pub fn arg(self, part: Part, index: usize, code: u8) -> Result<Regular, Refusal>
+        ensures { regular_paper result ≡ of_regular self.arity self.constructors.0 self.scalars.0 self.conclusion (regular_arg part index code) no_set }
+    {
+        self.handed_in()?.arg(part, index, code)
     }
-    regular_in(arity, constructors, scalars, conclusion).concrete_only()
-}
 
-// The preferred rule. Refused as `Regular::most_preferred` is.
-pub fn regular_preferred(
-    arity: u8,
-    constructors: ConstructorSet,
-    scalars: ScalarSet,
-    conclusion: u8,
-) -> RuleAnswer
-    ensures { rule_paper result ≡ of_regular arity constructors.0 scalars.0 conclusion regular_preferred no_rule }
-{
-    if CONCLUSION_COUNT <= conclusion {
-        return RuleAnswer::Refused(Refusal::Unknown(0));
+    // The set without its abstract scalars. Refused as `Regular::concrete_only` is.
+    pub fn concrete_only(self) -> Result<Regular, Refusal>
+        ensures { regular_paper result ≡ of_regular self.arity self.constructors.0 self.scalars.0 self.conclusion regular_concrete no_set }
+    {
+        self.handed_in()?.concrete_only()
     }
-    regular_in(arity, constructors, scalars, conclusion).most_preferred()
-}
 
-// The rule at an index of the set's listing. Refused as `Regular::overload_list` is, then 7 at 1 for an unknown index.
-pub fn regular_rule(
-    arity: u8,
-    constructors: ConstructorSet,
-    scalars: ScalarSet,
-    conclusion: u8,
-    index: u8,
-) -> RuleAnswer
-    ensures { rule_paper result ≡ of_regular arity constructors.0 scalars.0 conclusion (regular_rule_at index) no_rule }
-{
-    if CONCLUSION_COUNT <= conclusion {
-        return RuleAnswer::Refused(Refusal::Unknown(0));
+    // The preferred rule. Refused as `Regular::most_preferred` is.
+    pub fn preferred(self) -> Result<Rule, Refusal>
+        ensures { rule_paper result ≡ of_regular self.arity self.constructors.0 self.scalars.0 self.conclusion regular_preferred no_rule }
+    {
+        self.handed_in()?.most_preferred()
     }
-    listed_at(regular_in(arity, constructors, scalars, conclusion), index)
+
+    // The rule at an index of the set's listing. Refused as `Regular::overload_list` is, then 7 at 1 for an unknown index.
+    pub fn rule(self, index: u8) -> Result<Rule, Refusal>
+        ensures { rule_paper result ≡ of_regular self.arity self.constructors.0 self.scalars.0 self.conclusion (regular_rule_at index) no_rule }
+    {
+        listed_at(self.handed_in()?, index)
+    }
+
+    // The set of these parts, with no test but that of the conclusion.
+    fn handed_in(self) -> Result<Regular, Refusal>
+        ensures { regular_paper result ≡ of_regular self.arity self.constructors.0 self.scalars.0 self.conclusion set_paper no_set }
+    {
+        Ok(Regular {
+            arity: self.arity,
+            constructors: self.constructors,
+            scalars: self.scalars,
+            conclude: ConclusionRule::try_from(self.conclusion)?,
+        })
+    }
 }
 
 // The rule at an index of a set's listing.
-fn listed_at(set: Regular, index: u8) -> RuleAnswer
+fn listed_at(set: Regular, index: u8) -> Result<Rule, Refusal>
     ensures { rule_paper result ≡ regular_rule_at index set }
 {
-    let listing = set.overload_list();
-    let answer = listing.answer;
-    let rules = listing.rules;
-    match answer {
-        CountAnswer::Refused(why) => RuleAnswer::Refused(why),
-        CountAnswer::Count(n) => {
-            if n <= index {
-                return RuleAnswer::Refused(Refusal::Unknown(1));
-            }
-            let rule = rules[index as usize];
-            RuleAnswer::Rule(rule)
-        }
+    let listing = set.overload_list()?;
+    if listing.count <= index {
+        return Err(Refusal::Unknown(1));
     }
-}
-
-// The set of these parts, as it was handed in.
-fn regular_in(
-    arity: u8,
-    constructors: ConstructorSet,
-    scalars: ScalarSet,
-    conclusion: u8,
-) -> Regular
-    ensures { result ≡ regular_of arity constructors.0 scalars.0 (conclusion_of conclusion) }
-{
-    Regular {
-        arity: arity,
-        constructors: constructors,
-        scalars: scalars,
-        conclude: conclusion_of(conclusion),
-    }
-}
-
-// The conclusion of this number, in the order of the crate's.
-fn conclusion_of(number: u8) -> ConclusionRule
-    ensures { result ≡ conclusion_of number }
-{
-    match number {
-        0 => ConclusionRule::ArgumentType,
-        1 => ConclusionRule::Scalar,
-        2 => ConclusionRule::Frexp,
-        3 => ConclusionRule::Modf,
-        4 => ConclusionRule::U32,
-        5 => ConclusionRule::I32,
-        6 => ConclusionRule::Vec2F,
-        7 => ConclusionRule::Vec4F,
-        8 => ConclusionRule::Vec4I,
-        _ => ConclusionRule::Vec4U,
-    }
+    Ok(listing.rules[usize::from(index)])
 }

@@ -19,7 +19,8 @@ use Rattle.functions.specs.ListedRules.{listed_rules}
 use Rattle.functions.specs.Functions.{function_sets, function_set_of, rules_in, listing_of}
 use Rattle.lists.specs.Expansion.{list_of, expanded}
 use Rattle.lists.specs.ChosenPaper.{list_paper}
-use Rattle.lists.specs.declared.list.ListAnswer.{ListAnswer}
+use Rattle.std.specs.Prelude.{Result, Ok}
+use Rattle.scalars.specs.declared.refusal.Refusal.{Refusal}
 use Rattle.calls.specs.private.CallSets.{Callable, Full}
 use Rattle.lists.specs.declared.list.List as lists
 use Rattle.functions.specs.declared.mathfunction.FunctionSet.{FunctionSet}
@@ -49,13 +50,13 @@ unfolding listing_of
 regular_listing f r e = ap rules_in e
 
 -- the List that it expands to
-pub regular-list : (f : ℕ) (r : Regular) → function_set_of f ≡ set.Regular r → (l : ListAnswer) → list_paper l ≡ expanded r → l.list ≡ list_of (listing_of f)
+pub regular-list : (f : ℕ) (r : Regular) → function_set_of f ≡ set.Regular r → (l : Result lists.List Refusal) → list_paper l ≡ expanded r → l ≡ Ok (list_of (listing_of f))
 unfolding expanded
 regular-list f r e l p =
     let able = callable f r e in
     let few : length (regular_rules r) ≤ most_rules = subst (λ (rs : List Signature). length rs ≤ most_rules) (regular_listing f r e) (few-rules f) in
-    held-list l.answer l.list (list_of (regular_rules r))
-    (p ∙ simp (known-accepted r able.known, le-leb _ _ few, able.concludes)) ∙ ap list_of (sym (regular_listing f r e))
+    held-list l (list_of (regular_rules r)) (p ∙ simp (known-accepted r able.known, le-leb _ _ few, able.concludes))
+    ∙ ap (λ (rs : List Signature). Ok (list_of rs)) (sym (regular_listing f r e))
 
 -- ---- Lists: each is a List that was tested, and its rules, all of them members, are those of its function
 

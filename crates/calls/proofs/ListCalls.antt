@@ -5,13 +5,14 @@ use mathlib.Core.Path.{◌≡◌, refl, sym, ap, ◌∙◌, subst, subst⁻¹}
 use mathlib.Core.Bool.{Bool, true, false}
 use mathlib.Core.List as L
 use mathlib.Core.List.{[], ◌∷◌}
-use Prim.Native.Nat.{ℕ, ◌^◌, ◌≤◌, ◌<◌, zero-le}
+use Prim.Native.Nat.{ℕ, ◌+◌, ◌^◌, ◌≤◌, ◌<◌, zero-le}
 use native.Mathlib.Omega.{arith}
 use lib.ListN.{length, get_or}
+use Rattle.std.specs.Prelude.{Result, Ok, Err}
+use Rattle.std.specs.Result.{result_unwrap_or}
 use Rattle.scalars.specs.Mask.{select, sift, bits, head_or}
-use Rattle.scalars.specs.Paper.{accepted, refusal, values, beside, verdict_paper}
-use Rattle.scalars.specs.declared.answer.Verdict.{Verdict}
-use Rattle.scalars.specs.declared.answer.Verdict.TheVariants as verdict
+use Rattle.scalars.specs.Paper.{accepted, refusal, values, count_paper}
+use Rattle.scalars.specs.declared.refusal.Refusal.{Refusal}
 use Rattle.rules.specs.Rule.{blank_rule, passes}
 use Rattle.rules.specs.RulePaper.{rule_values}
 use Rattle.rules.specs.declared.rule.Rule.{Rule}
@@ -24,15 +25,17 @@ use Rattle.rules.specs.declared.rule.Keep.TheVariants.{Argument, Concrete}
 use Rattle.lists.specs.Entry.{Entry, number, keep}
 use Rattle.lists.specs.List.{accepted_list, signatures, listing, entries, clean_list, preferred_of}
 use Rattle.lists.specs.private.Tested.{Valid}
-use Rattle.lists.specs.ChosenPaper.{no_choice, list_values}
+use Rattle.lists.specs.ChosenPaper.{no_choice, list_paper}
 use Rattle.lists.specs.declared.list.List.{List}
 use Rattle.lists.specs.declared.walks.RuleSet.{RuleSet}
 use Rattle.calls.specs.Choice.{Narrowed, left, emptied, narrow, first, concrete_step, after_operands, resolve}
 use Rattle.calls.specs.Call.{answered, members_of, survivors_after, survivors_of}
 use Rattle.calls.specs.private.CallSets.{Full}
-use Rattle.calls.specs.private.Steps.{Within, choice_by, survivors_by, Bounded, Stepped, Placed}
-use Rattle.calls.specs.declared.call.Steps.{Steps}
-use Rattle.calls.specs.declared.call.Steps.TheVariants.{WrongCount, NoneAfter, Left}
+use Rattle.calls.specs.OutcomePaper.{outcome_paper}
+use Rattle.calls.proofs.OutcomePapers.{Placed}
+use Rattle.calls.specs.private.Steps.{no_choice_by, choice_by, survivors_by, Bounded, Stepped}
+use Rattle.calls.specs.declared.outcome.NoRule.{NoRule}
+use Rattle.calls.specs.declared.outcome.NoRule.TheVariants.{WrongCount, NoneAfter, NoneConcrete}
 use Rattle.scalars.proofs.Masks.{select-none, sift-lt}
 use Rattle.lists.proofs.Lists.{valid-length, valid-within, valid-word, preferred-first}
 use Rattle.lists.proofs.Entries.{select-keep}
@@ -57,11 +60,16 @@ some-count [] h = absurd (omega arith)
 some-count (r ∷ rs) h = refl
 
 module _ (l : List) (full : Full l) where
-  pub full-none : {n p : ℕ} {vs : L.List ℕ} → count_of (listing l) ≡ refusal n p vs → 0 ≡ longest (signatures l)
+  full-none : {n p : ℕ} {vs : L.List ℕ} → count_of (listing l) ≡ refusal n p vs → 0 ≡ longest (signatures l)
   full-none e = none-counted (signatures l) (ap count_of (sym (full-listing l full)) ∙ e)
 
-  pub full-longest : {n : ℕ} → count_of (listing l) ≡ accepted (n ∷ []) → n ≡ longest (signatures l)
+  full-longest : {n : ℕ} → count_of (listing l) ≡ accepted (n ∷ []) → n ≡ longest (signatures l)
   full-longest e = some-counted (signatures l) (ap count_of (sym (full-listing l full)) ∙ e)
+
+  -- as `longest` answers it, 0 where it refuses
+  pub full-most : (a : Result ℕ Refusal) → count_paper a ≡ count_of (listing l) → result_unwrap_or a 0 ≡ longest (signatures l)
+  full-most (Ok n) e = full-longest (sym e)
+  full-most (Err why) e = full-none (sym e)
 
   pub full-count : 0 < length (signatures l) → count_of (listing l) ≡ accepted (longest (signatures l) ∷ [])
   full-count some = ap count_of (full-listing l full) ∙ some-count (signatures l) some
@@ -82,7 +90,7 @@ module _ (list : List) (full : Full list) (ts : L.List ℕ) (switch : Bool) wher
   many = valid-length list full.valid
 
   -- another number of operands
-  pub steps-wrong : (length ts ≡ longest rules → ⊥) → Stepped switch list ts WrongCount
+  pub steps-wrong : (length ts ≡ longest rules → ⊥) → Stepped switch list ts (Err WrongCount)
   unfolding resolve survivors_of
   steps-wrong h = record { choice = sym (count-wrong rules ts _ _ h); survivors = sym (count-wrong rules ts _ _ h); bounded = tt }
 
@@ -92,7 +100,7 @@ module _ (list : List) (full : Full list) (ts : L.List ℕ) (switch : Bool) wher
 
   module _ (counted : length ts ≡ longest rules) where
     -- what the operands leave decides
-    steps-right : (s : Steps) (y : Narrowed) → y ≡ narrow ts 0 (number 0 rules) → choice_by rules s ≡ after_operands switch y
+    steps-right : (s : Result RuleSet NoRule) (y : Narrowed) → y ≡ narrow ts 0 (number 0 rules) → choice_by rules s ≡ after_operands switch y
         → survivors_by s ≡ survivors_after switch y → Bounded list ts s → Stepped switch list ts s
     unfolding resolve survivors_of
     steps-right s y e c m b = record {
@@ -116,13 +124,13 @@ module _ (list : List) (full : Full list) (ts : L.List ℕ) (switch : Bool) wher
       asked = Argument part i (get_or ts i 0)
 
       -- the step leaves none
-      pub reached_out : passing m asked ≡ 0 → Stepped switch list ts (NoneAfter part i)
+      reached_out : passing m asked ≡ 0 → Stepped switch list ts (Err (NoneAfter part i))
       reached_out e =
           let none = sym (passing-entries m asked) ∙ ap (select (number 0 rules)) e ∙ select-none (number 0 rules) in
-          steps-right (NoneAfter part i) (emptied part i) (sym (step_out ts i here part (select (number 0 rules) m) none) ∙ reached.2) refl refl here
+          steps-right (Err (NoneAfter part i)) (emptied part i) (sym (step_out ts i here part (select (number 0 rules) m) none) ∙ reached.2) refl refl here
 
       -- it leaves some
-      pub reached-on : (passing m asked ≡ 0 → ⊥) → Reached list ts (passing m asked) (next_part part) (next_at part i)
+      reached-on : (passing m asked ≡ 0 → ⊥) → Reached list ts (passing m asked) (next_part part) (next_at part i)
       reached-on e =
           let some = subst Some (passing-entries m asked) (picks-some rules (passing m asked) (passing-within m asked) e) in (
             there part,
@@ -135,20 +143,37 @@ module _ (list : List) (full : Full list) (ts : L.List ℕ) (switch : Bool) wher
           there Shape = omega arith
           there Number = omega arith
 
+    -- the two steps of an operand, by the masks that they leave
+    module _ (m i : ℕ) (reached : Reached list ts m Shape i) (here : i < length ts) {shaped : ℕ}
+        (by_shape : shaped ≡ passing m (Argument Shape i (get_or ts i 0))) where
+      pub shape_out : shaped ≡ 0 → Stepped switch list ts (Err (NoneAfter Shape i))
+      shape_out e = reached_out Shape m i reached here (sym by_shape ∙ e)
+
+      module _ (some : shaped ≡ 0 → ⊥) {both : ℕ} (by_both : both ≡ passing shaped (Argument Number i (get_or ts i 0))) where
+        half : Reached list ts shaped Number i
+        half = subst (λ (n : ℕ). Reached list ts n Number i) (sym by_shape) (reached-on Shape m i reached here (λ e. some (by_shape ∙ e)))
+
+        pub number_out : both ≡ 0 → Stepped switch list ts (Err (NoneAfter Number i))
+        number_out e = reached_out Number shaped i half here (sym by_both ∙ e)
+
+        pub number-on : (both ≡ 0 → ⊥) → Reached list ts both Shape (i + 1)
+        number-on e =
+            subst (λ (n : ℕ). Reached list ts n Shape (i + 1)) (sym by_both) (reached-on Number shaped i half here (λ z. e (by_both ∙ z)))
+
     module _ (m i : ℕ) (reached : Reached list ts m Shape i) where
       module _ (done : length ts ≤ i) (set : RuleSet) where
         -- what is left at the end, where the switch leaves these of it
-        left_by : set.0 < 2 ^ length rules → select (number 0 rules) set.0 ≡ concrete_step switch (select (number 0 rules) m) → Stepped switch list ts (Left set)
+        left_by : set.0 < 2 ^ length rules → select (number 0 rules) set.0 ≡ concrete_step switch (select (number 0 rules) m) → Stepped switch list ts (Ok set)
         left_by w e =
-            steps-right (Left set) (left (select (number 0 rules) m)) (sym (narrow-end ts i (select (number 0 rules) m) done) ∙ reached.2)
+            steps-right (Ok set) (left (select (number 0 rules) m)) (sym (narrow-end ts i (select (number 0 rules) m) done) ∙ reached.2)
             (ap first e) (picked_members rules set.0 w ∙ ap members_of e) (subst (λ (n : ℕ). set.0 < 2 ^ n) many w)
 
-        pub reached-end : set.0 ≡ m → switch ≡ false → Stepped switch list ts (Left set)
+        pub reached-end : set.0 ≡ m → switch ≡ false → Stepped switch list ts (Ok set)
         reached-end e off =
             left_by (subst⁻¹ (λ (n : ℕ). n < 2 ^ length rules) e reached.1)
             (ap (select (number 0 rules)) e ∙ ap (λ (b : Bool). concrete_step b (select (number 0 rules) m)) (sym off))
 
-        pub reached-concrete : set.0 ≡ passing m Concrete → switch ≡ true → Stepped switch list ts (Left set)
+        pub reached-concrete : set.0 ≡ passing m Concrete → switch ≡ true → Stepped switch list ts (Ok set)
         reached-concrete e on =
             left_by (subst⁻¹ (λ (n : ℕ). n < 2 ^ length rules) e (passing-within m Concrete))
             (ap (select (number 0 rules)) e ∙ passing-entries m Concrete ∙ ap (λ (b : Bool). concrete_step b (select (number 0 rules) m)) (sym on))
@@ -159,7 +184,7 @@ preferred-answered : (s : L.List Entry) → preferred_of s ≡ answered (first s
 preferred-answered [] = refl
 preferred-answered (x ∷ xs) = refl
 
-module _ (l : List) (set : RuleSet) (w : Within l set) where
+module _ (l : List) (set : RuleSet) (valid : Valid l) (within : set.0 < 2 ^ l.len) where
   -- the List with these members alone
   abbrev only : List
   only = record { rules = l.rules; len = l.len; members = set.0 }
@@ -167,9 +192,9 @@ module _ (l : List) (set : RuleSet) (w : Within l set) where
   only-valid : Valid only
   unfolding clean_list signatures
   only-valid = record {
-    few = w.valid.few;
-    within = w.within;
-    clean = ap (λ (x : List). record { rules = x.rules; len = l.len; members = set.0 }) w.valid.clean;
+    few = valid.few;
+    within = within;
+    clean = ap (λ (x : List). record { rules = x.rules; len = l.len; members = set.0 }) valid.clean;
   }
 
   pub left_word : set.0 < 2 ^ 64
@@ -185,15 +210,21 @@ module _ (l : List) (set : RuleSet) (w : Within l set) where
   unfolding entries signatures
   first_rule q e is = preferred-first only only-valid q e is ∙ preferred-answered (entries only)
 
+-- why there is no rule, as an outcome and as a choice
+pub why-answered : (why : NoRule) → outcome_paper (Err why) ≡ answered (no_choice_by why)
+why-answered WrongCount = refl
+why-answered (NoneAfter part k) = refl
+why-answered NoneConcrete = refl
+
 -- an operand's place fits a machine word, as the number of operands does
-pub placed_of : (l : List) (ts : L.List ℕ) (s : Steps) → Bounded l ts s → length ts < 2 ^ 64 → Placed s
+pub placed_of : (l : List) (ts : L.List ℕ) (why : NoRule) → Bounded l ts (Err why) → length ts < 2 ^ 64 → Placed why
 placed_of l ts WrongCount b h = tt
 placed_of l ts (NoneAfter part k) b h = omega arith
-placed_of l ts (Left m) b h = tt
+placed_of l ts NoneConcrete b h = tt
 
 -- ---- the List in an answer that is accepted
 
-pub held-list : (v : Verdict) (a b : List) → beside (verdict_paper v) (list_values a) ≡ accepted_list b → a ≡ b
+pub held-list : (a : Result List Refusal) (b : List) → list_paper a ≡ accepted_list b → a ≡ Ok b
 unfolding accepted_list
-held-list verdict.Accepted a b e = list_values-one a b (ap values e)
-held-list (verdict.Refused why) a b e = let z : ◌≡◌ {A = ℕ} 0 1 = cc in absurd (omega arith)
+held-list (Ok a) b e = ap Ok (list_values-one a b (ap values e))
+held-list (Err why) b e = let z : ◌≡◌ {A = ℕ} 0 1 = cc in absurd (omega arith)

@@ -13,6 +13,7 @@ use borrow.Author.Tests.{le-leb, lt-leb}
 use Rattle.scalars.specs.Mask.{choose, either}
 use Rattle.scalars.specs.Paper.{Paper, accepted, refusal}
 use Rattle.types.specs.Domain.{last_code}
+use Rattle.types.specs.declared.operand.Operand.{Operand}
 use Rattle.types.specs.Operand.{measured_mark, mark_of, operand_of, measured_abstract, any_mark}
 use Rattle.calls.specs.Call.{operand_fault, if_operands}
 use Rattle.calls.specs.private.Found.{in_order}
@@ -42,11 +43,16 @@ module _ (ts ms : List ℕ) (i : ℕ) {whole : Paper} (inv : tested_from i ts ms
       unknown_mark h = unknown (rw (le-leb _ _ known, lt-leb _ _ h))
 
       module _ (marked : get_or ms i 0 ≤ measured_mark) where
-        pub measured_abstract_lem : measured_abstract (operand_of (get_or ts i 0) (get_or ms i 0)) ≡ true → refusal 17 (1 + i) [] ≡ whole
-        measured_abstract_lem h = let e : fault ≡ 17 = rw (le-leb _ _ known, le-leb _ _ marked, h) in sym (split ∙ rw e) ∙ inv
+        module _ {o : Operand} (made : o ≡ operand_of (get_or ts i 0) (get_or ms i 0)) {b : Bool} (told : b ≡ measured_abstract o) where
+          pub measured_abstract_out : b ≡ true → refusal 17 (1 + i) [] ≡ whole
+          measured_abstract_out h =
+              let e : fault ≡ 17 = rw (le-leb _ _ known, le-leb _ _ marked, sym (ap measured_abstract made) ∙ sym told ∙ h) in
+              sym (split ∙ rw e) ∙ inv
 
-        pub next-operand : measured_abstract (operand_of (get_or ts i 0) (get_or ms i 0)) ≡ false → tested_from (i + 1) ts ms ≡ whole
-        next-operand h = let e : fault ≡ 0 = rw (le-leb _ _ known, le-leb _ _ marked, h) in sym (split ∙ rw e) ∙ inv
+          pub next-operand : b ≡ false → tested_from (i + 1) ts ms ≡ whole
+          next-operand h =
+              let e : fault ≡ 0 = rw (le-leb _ _ known, le-leb _ _ marked, sym (ap measured_abstract made) ∙ sym told ∙ h) in
+              sym (split ∙ rw e) ∙ inv
 
   pub no_operand-left : length ts ≤ i → {measured : Bool} → measured ≡ any_mark ms → accepted (mark_of measured ∷ []) ≡ whole
   no_operand-left h some =
@@ -63,13 +69,21 @@ none_else : (b : Bool) → either b false ≡ b
 none_else true = refl
 none_else false = refl
 
+-- what `||` gives, by its first side
+pub or_first : {a c : Bool} (b : Bool) → c ≡ a → a ≡ true → c ≡ either a b
+or_first {a} b e t = e ∙ t ∙ sym (ap (λ (x : Bool). either x b) t)
+
+pub or_second : {a c : Bool} (b : Bool) → c ≡ b → a ≡ false → c ≡ either a b
+or_second {a} b e f = e ∙ sym (ap (λ (x : Bool). either x b) f)
+
 -- some operand is, if one before this one is or one from here on
 abbrev pub SoFar : List ℕ → ℕ → Bool → Type 0
 SoFar ms i measured = either measured (any_mark (drop i ms)) ≡ any_mark ms
 
 module _ (ms : List ℕ) (i : ℕ) (measured : Bool) (so_far : SoFar ms i measured) where
-  pub next-mark : i < length ms → {also : Bool} → also ≡ either measured (operand_of 0 (get_or ms i 0)).measured → SoFar ms (i + 1) also
-  next-mark h {also} e =
+  pub next-mark : i < length ms → {o : Operand} {t : ℕ} → o ≡ operand_of t (get_or ms i 0) → {also : Bool} → also ≡ either measured o.measured → SoFar ms (i + 1) also
+  next-mark h made is =
+      let e = is ∙ ap (λ (o : Operand). either measured o.measured) made in
       let split : any_mark (drop i ms) ≡ either (eqb (get_or ms i 0) measured_mark) (any_mark (drop (i + 1) ms)) =
       rw (add-one i) (ap any_mark (drop-cons ms i 0 h)) in
       ap (λ b. either b (any_mark (drop (i + 1) ms))) e

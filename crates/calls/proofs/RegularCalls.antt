@@ -1,9 +1,9 @@
 -- A call of a Regular set, step by step: its arity is the number of operands, each operand narrows the masks by its shape and by its
 -- number, and the first rule that is left is the chosen one. Assumes nothing.
-use mathlib.Core.Path.{◌≡◌, refl, sym, ap, ◌∙◌}
+use mathlib.Core.Path.{◌≡◌, refl, sym, ap, ◌∙◌, subst}
 use mathlib.Core.Bool.{Bool, true, false}
 use mathlib.Core.List.{List, [], map}
-use Prim.Native.Nat.{ℕ, zero, suc, ◌≤◌, ◌<◌, zero-le}
+use Prim.Native.Nat.{ℕ, zero, suc, ◌+◌, ◌≤◌, ◌<◌, zero-le}
 use native.Mathlib.Omega.{arith}
 use lib.ListN.{length, get_or}
 use Rattle.scalars.specs.Mask.{bits}
@@ -11,9 +11,10 @@ use Rattle.rules.specs.Signature.{fits}
 use Rattle.rules.specs.declared.rule.Part.{Part}
 use Rattle.rules.specs.declared.rule.Part.TheVariants.{Shape, Number}
 use Rattle.lists.specs.Entry.{Entry, number, keep}
-use Rattle.calls.specs.Choice.{Narrowed, left, emptied, narrow, wrong_count, after_operands, resolve}
+use Rattle.calls.specs.Choice.{Narrowed, left, emptied, narrow, wrong_count, none_after, after_operands, resolve}
 use Rattle.rules.specs.Verdict.{longest}
 use Rattle.regular.specs.Regular.{pairs, codes_of, signature_for, regular_rules, empty_set?, narrowed, concrete_set}
+use Rattle.regular.specs.SetPaper.{set_paper}
 use Rattle.regular.specs.private.Tested.{Known}
 use Rattle.calls.specs.Call.{answered}
 use Rattle.calls.specs.private.CallSets.{Callable, preferred_in}
@@ -23,6 +24,7 @@ use Rattle.regular.specs.declared.regular.Regular.{Regular}
 use Rattle.scalars.proofs.Bits.{bits_none}
 use Rattle.regular.proofs.Regulars.{codes-first, longest-arity, lowest_code}
 use Rattle.regular.proofs.RegularSteps.{narrowed-known, concrete-known}
+use Rattle.regular.proofs.SetPapers.{set-one}
 use Rattle.calls.proofs.Resolving.{next_part, next_at, to_come, step_out, step-on, narrow-end, count-wrong, count-right}
 use Rattle.calls.proofs.RegularResolving.{Holds, holds-all, holds-argument, holds_switched, holds-preferred, holds-none, holds-some}
 
@@ -83,13 +85,13 @@ module _ (set : Regular) (callable : Callable set) (ts : List ℕ) where
       holds' = let b : i < set.arity = omega arith in holds-argument part i (get_or ts i 0) set rest reached.2 b reached.3
 
       -- that is none
-      pub reached_out : (switch : Bool) → empty_set? rest' ≡ true
+      reached_out : (switch : Bool) → empty_set? rest' ≡ true
           → answered (after_operands switch (emptied part i)) ≡ answered (resolve switch (regular_rules set) ts)
       reached_out switch e =
           regular-right switch (emptied part i) (sym reached.4 ∙ step_out ts i here part reached.2 (holds-none set rest' _ holds' e))
 
       -- it is some
-      pub reached-on : empty_set? rest' ≡ false → Reached set ts rest' (next_part part) (next_at part i)
+      reached-on : empty_set? rest' ≡ false → Reached set ts rest' (next_part part) (next_at part i)
       reached-on e =
           let k = narrowed-known part (get_or ts i 0) rest reached.1 in
           (there part, k, _, holds', sym (step-on ts i here part reached.2 (holds-some set rest' _ holds' k e)) ∙ reached.4)
@@ -97,6 +99,33 @@ module _ (set : Regular) (callable : Callable set) (ts : List ℕ) where
           there : (w : Part) → next_at w i ≤ length ts
           there Shape = omega arith
           there Number = omega arith
+
+    -- the two steps of an operand, by the sets that they leave and by whether these have no rule
+    module _ (rest : Regular) (i : ℕ) (reached : Reached set ts rest Shape i) (here : i < length ts) (shaped : Regular) {none : Bool}
+        (by_shape : set_paper shaped ≡ set_paper (narrowed Shape (get_or ts i 0) rest)) (told : none ≡ empty_set? shaped) where
+      shaped-is : shaped ≡ narrowed Shape (get_or ts i 0) rest
+      shaped-is = set-one shaped (narrowed Shape (get_or ts i 0) rest) by_shape
+
+      pub shape_out : none ≡ true → (switch : Bool) → answered (none_after Shape i) ≡ answered (resolve switch (regular_rules set) ts)
+      shape_out e switch = reached_out Shape rest i reached here switch (ap empty_set? (sym shaped-is) ∙ sym told ∙ e)
+
+      module _ (some : none ≡ false) (both : Regular) {none' : Bool}
+          (by_both : set_paper both ≡ set_paper (narrowed Number (get_or ts i 0) shaped)) (told' : none' ≡ empty_set? both) where
+        half : Reached set ts shaped Number i
+        half =
+            subst (λ (x : Regular). Reached set ts x Number i) (sym shaped-is)
+            (reached-on Shape rest i reached here (ap empty_set? (sym shaped-is) ∙ sym told ∙ some))
+
+        both-is : both ≡ narrowed Number (get_or ts i 0) shaped
+        both-is = set-one both (narrowed Number (get_or ts i 0) shaped) by_both
+
+        pub number_out : none' ≡ true → (switch : Bool) → answered (none_after Number i) ≡ answered (resolve switch (regular_rules set) ts)
+        number_out e switch = reached_out Number shaped i half here switch (ap empty_set? (sym both-is) ∙ sym told' ∙ e)
+
+        pub number-on : none' ≡ false → Reached set ts both Shape (i + 1)
+        number-on e =
+            subst (λ (x : Regular). Reached set ts x Shape (i + 1)) (sym both-is)
+            (reached-on Number shaped i half here (ap empty_set? (sym both-is) ∙ sym told' ∙ e))
 
     module _ (rest : Regular) (i : ℕ) (reached : Reached set ts rest Shape i) where
       module _ (done : length ts ≤ i) where
@@ -110,11 +139,13 @@ module _ (set : Regular) (callable : Callable set) (ts : List ℕ) where
             holds-preferred set rest reached.2 reached.3 callable ∙ regular-right false _ end
             ∙ ap (λ (b : Bool). answered (resolve b (regular_rules set) ts)) (sym off)
 
-        pub reached-concrete : (switch : Bool) → switch ≡ true
-            → preferred_in set (bits 13 (concrete_set rest).constructors.0) (bits 12 (concrete_set rest).scalars.0) ≡ answered (resolve switch (regular_rules set) ts)
-        reached-concrete switch on =
-            holds_switched set rest reached.2 reached.3 callable ∙ regular-right true _ end
-            ∙ ap (λ (b : Bool). answered (resolve b (regular_rules set) ts)) (sym on)
+        module _ (concrete : Regular) (is : set_paper concrete ≡ set_paper (concrete_set rest)) where
+          pub reached-concrete : (switch : Bool) → switch ≡ true
+              → preferred_in set (bits 13 concrete.constructors.0) (bits 12 concrete.scalars.0) ≡ answered (resolve switch (regular_rules set) ts)
+          reached-concrete switch on =
+              ap (λ (x : Regular). preferred_in set (bits 13 x.constructors.0) (bits 12 x.scalars.0)) (set-one concrete (concrete_set rest) is)
+              ∙ holds_switched set rest reached.2 reached.3 callable ∙ regular-right true _ end
+              ∙ ap (λ (b : Bool). answered (resolve b (regular_rules set) ts)) (sym on)
 
-        pub concrete-left : Known (concrete_set rest)
-        concrete-left = concrete-known rest reached.1
+          pub concrete-left : Known concrete
+          concrete-left = subst Known (sym (set-one concrete (concrete_set rest) is)) (concrete-known rest reached.1)

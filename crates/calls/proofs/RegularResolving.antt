@@ -9,7 +9,8 @@ use native.Mathlib.Omega.{arith}
 use lib.Dec.{ltb, lit≤}
 use lib.ListN.{length}
 use borrow.Author.Tests.{lt-ltb, ltb-true}
-use Rattle.scalars.specs.Mask.{choose, both, cons_if, filter, every, bits}
+use Rattle.scalars.specs.Mask.{choose, both, cons_if, filter, every, bits, head_or}
+use Rattle.scalars.specs.OneBits.{step_of}
 use Rattle.scalars.specs.Domain.{scalars, abstract?}
 use Rattle.scalars.specs.Scalar.{first_scalar, most_general}
 use Rattle.types.specs.Domain.{constructors}
@@ -28,6 +29,7 @@ use Rattle.rules.specs.RulePaper.{rule_values}
 use Rattle.lists.specs.ChosenPaper.{no_choice}
 use Rattle.regular.specs.declared.regular.Regular.{Regular}
 use Rattle.scalars.proofs.Bits.{bits-next, bits_none}
+use Rattle.scalars.proofs.Walks.{ended-bits, walked-bits}
 use Rattle.scalars.proofs.Filters.{both_left, every-filter, filter-true, filter_both, filter_map}
 use Rattle.calls.proofs.Firsts.{keep-keep, keep-every}
 use Rattle.calls.proofs.Narrowing.{Some}
@@ -219,6 +221,17 @@ module _ (m : ℕ) (known : m < 2 ^ 12) where
       go : (ks : List ℕ) → first_scalar ks ≡ accepted (k ∷ []) → every (λ s. ltb s 12) ks ≡ true → (k < 12) × (rest : List ℕ) × (ks ≡ k ∷ rest)
       go [] f all = let z : ◌≡◌ {A = ℕ} 0 1 = cc in absurd (omega arith)
       go (j ∷ ks) f all = let z : j ≡ k = cc in (subst (λ (n : ℕ). n < 12) z (ltb-true _ _ (both_left (ltb j 12) _ all)), ks, ap (λ (n : ℕ). n ∷ ks) z)
+
+-- the first constructor that is left, as a step of a walk over the mask finds it
+module _ (m : ℕ) (known : m < 2 ^ 13) {word : ℕ} (is : word ≡ m) where
+  pub constructor-none : accepted [] ≡ step_of (bits 64 word) → bits 13 m ≡ []
+  constructor-none e = ap (bits 13) (sym is) ∙ ended-bits word (omega arith) 13 e
+
+  pub constructor-some : (b r : ℕ) {k : ℕ} → accepted (b ∷ r ∷ []) ≡ step_of (bits 64 word) → k ≡ head_or 64 (bits 64 b)
+      → (k < 13) × (rest : List ℕ) × (bits 13 m ≡ k ∷ rest)
+  constructor-some b r e n =
+      let w = walked-bits 13 word (lit≤ tt) (omega arith) e n in
+      (w.below, bits 13 r, ap (bits 13) (sym is) ∙ w.numbers)
 
 pub none-preferred : (set : Regular) (ks : List ℕ) {ns : List ℕ} → ns ≡ [] → refusal 1 0 no_choice ≡ preferred_in set ks ns
 none-preferred set [] e = refl

@@ -1,13 +1,16 @@
 -- The paper's number, place and values for a call by itself: the chosen rule's index, its four arguments, their count, its result, and the
 -- result's mark.
-use Rattle.std.specs.Prelude.{[], ◌∷◌, ◌++◌}
-use Rattle.scalars.specs.Paper.{Paper, accepted, refused}
+use mathlib.Core.List as L
+use Rattle.std.specs.Prelude.{[], ◌∷◌, ◌++◌, ℕ, Result}
+use Rattle.scalars.specs.Paper.{Paper, answer_paper}
+use Rattle.scalars.specs.declared.refusal.Refusal.{Refusal}
 use Rattle.types.specs.Operand.{mark_of}
 use Rattle.rules.specs.RulePaper.{rule_values}
 use Rattle.lists.specs.ChosenPaper.{no_choice}
-use Rattle.calls.specs.declared.outcome.CallAnswer.{CallAnswer}
-use Rattle.calls.specs.declared.outcome.CallAnswer.TheVariants.{Called, Refused}
+use Rattle.calls.specs.declared.outcome.Called.{Called}
 
-abbrev pub call_paper : CallAnswer → Paper
-call_paper (Called c measured) = accepted ((c.index ∷ rule_values c.rule) ++ (mark_of measured ∷ []))
-call_paper (Refused why) = refused why no_choice
+abbrev pub called_values : Called → L.List ℕ
+called_values c = (c.chosen.index ∷ rule_values c.chosen.rule) ++ (mark_of c.measured ∷ [])
+
+abbrev pub call_paper : Result Called Refusal → Paper
+call_paper r = answer_paper called_values no_choice r

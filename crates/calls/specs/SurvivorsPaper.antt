@@ -1,9 +1,8 @@
 -- The paper's number, place and value for the survivors of a call: the mask of their indices.
-use Rattle.std.specs.Prelude.{[], ◌∷◌}
-use Rattle.scalars.specs.Paper.{Paper, accepted, refused}
-use Rattle.calls.specs.declared.call.Survivors.{Survivors}
-use Rattle.calls.specs.declared.call.Survivors.TheVariants.{Members, Refused}
+use Rattle.std.specs.Prelude.{[], ◌∷◌, Result}
+use Rattle.scalars.specs.Paper.{Paper, answer_paper}
+use Rattle.scalars.specs.declared.refusal.Refusal.{Refusal}
+use Rattle.lists.specs.declared.walks.RuleSet.{RuleSet}
 
-abbrev pub survivors_paper : Survivors → Paper
-survivors_paper (Members m) = accepted (m ∷ [])
-survivors_paper (Refused why) = refused why (0 ∷ [])
+abbrev pub survivors_paper : Result RuleSet Refusal → Paper
+survivors_paper r = answer_paper (λ (m : RuleSet). m.0 ∷ []) (0 ∷ []) r

@@ -9,33 +9,28 @@ use functions::{FunctionSet, ListFunction, function_set, listed_rule, rule_count
 use lists::{List, MOST_RULES, expand};
 use rules::Rule;
 
-// The List of a function that lists its rules.
+// The List of a function that lists its rules. They are written into the array that a List has in place of a vector: nothing is on a heap.
 pub fn full_list(listed: ListFunction) -> List
     ensures { result ≡ list_of (listed_rules listed) }
 {
     let n = rule_count(listed);
     let mut rules = [Rule::BLANK; MOST_RULES];
-    let mut k: u8 = 0;
-    while k < n {
-        rules[k as usize] = listed_rule(listed, k);
-        k += 1;
+    for k in 0..n {
+        rules[usize::from(k)] = listed_rule(listed, k);
     }
     List {
-        rules: rules,
-        len: n as usize,
+        rules,
+        len: usize::from(n),
         members: (1u64 << n) - 1,
     }
 }
 
-// The List of any function's rules; an unknown function has none.
+// The List of any function's rules; an unknown function has none. The set of each function expands.
 pub(crate) fn rules_of(function: u8) -> List
     ensures { result ≡ list_of (listing_of function) }
 {
     match function_set(function) {
-        FunctionSet::Regular(set) => {
-            let expanded = expand(set);
-            expanded.list
-        }
+        FunctionSet::Regular(set) => expand(set).unwrap(),
         FunctionSet::List(listed) => full_list(listed),
     }
 }

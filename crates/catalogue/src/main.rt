@@ -3,7 +3,7 @@
 #![tactic(auto)]
 
 use functions::{FUNCTION_COUNT, rule_at};
-use rules::{Rule, RuleAnswer};
+use rules::Rule;
 use std::io;
 use std::io::Print;
 
@@ -20,29 +20,19 @@ fn main(rt: HostRuntime) -> io::Result<()> {
 // The rules of one function, up to the index that is refused.
 fn print_listing(out: &impl Print, function: u8) -> io::Result<()> {
     for index in 0..LAST_INDEX {
-        match rule_at(function, index) {
-            RuleAnswer::Rule(rule) => print_rule(out, function, index, rule)?,
-            RuleAnswer::Refused(_) => {
-                return Ok(());
-            }
-        }
+        let Ok(rule) = rule_at(function, index) else {
+            break;
+        };
+        print_rule(out, function, index, rule)?;
     }
     Ok(())
 }
 
-// A line for one rule.
+// A line for one rule, whose arguments are fields with an index.
 fn print_rule(out: &impl Print, function: u8, index: u8, rule: Rule) -> io::Result<()> {
-    print_number(out, function)?;
-    print_number(out, index)?;
-    let n = rule.count;
-    print_number(out, n)?;
-    for i in 0..n as usize {
-        print_number(out, rule.argument(i))?;
+    print!(out; "{function} {index} {} ", rule.count)?;
+    for i in 0..usize::from(rule.count) {
+        print!(out; "{} ", rule.argument(i))?;
     }
     println!(out; "{}", rule.result)
-}
-
-// A number and a space.
-fn print_number(out: &impl Print, n: u8) -> io::Result<()> {
-    print!(out; "{n} ")
 }

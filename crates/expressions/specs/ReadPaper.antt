@@ -1,10 +1,8 @@
 -- The paper's number, place and value for what the first pass answers: how many nodes there are, 255 where the expression is refused.
-use Rattle.std.specs.Prelude.{[], ◌∷◌}
-use Rattle.scalars.specs.Paper as paper
-use Rattle.scalars.specs.Paper.{Paper, unused}
-use Rattle.expressions.specs.declared.expression.Read.{Read}
-use Rattle.expressions.specs.declared.expression.Read.TheVariants.{Accepted, Refused}
+use Rattle.std.specs.Prelude.{ℕ, [], ◌∷◌}
+use Rattle.std.specs.declared.result.Result.{Result}
+use Rattle.scalars.specs.Paper.{Paper, answer_paper, unused}
+use Rattle.scalars.specs.declared.refusal.Refusal.{Refusal}
 
-abbrev pub read_paper : Read → Paper
-read_paper (Accepted n) = paper.accepted (n ∷ [])
-read_paper (Refused why) = paper.refused why (unused ∷ [])
+abbrev pub read_paper : Result ℕ Refusal → Paper
+read_paper = answer_paper (λ n. n ∷ []) (unused ∷ [])

@@ -3,6 +3,4 @@
 
 mod expression;
 
-pub use expression::{
-    CALL, DEEPEST, LAST_LEAF, LEAF, MEASURED_LEAF, MOST_NODES, Read, read_expression,
-};
+pub use expression::{CALL, DEEPEST, LAST_LEAF, LEAF, MEASURED_LEAF, MOST_NODES, read_expression};

@@ -1,5 +1,6 @@
 -- Laws of the functions and their rules that several proofs use.
 pub mod Indices
+pub mod NthBits
 pub mod Ranks
 pub mod Database
 pub mod FunctionPapers

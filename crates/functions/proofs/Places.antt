@@ -111,11 +111,11 @@ mix-at : (k : ℕ) → k < length (listed_rules Mix) → mix_place k ≡ placed 
 unfolding rule_of listed_rules float_scalars scalar_or_vecn vector
 mix-at = at_place Mix mix_place refl
 
-pub mix-even : (k : ℕ) → k < length (listed_rules Mix) → k % 2 ≡ 0 → mixed true k ≡ placed Mix k
-mix-even k h e = ap (λ (b : Bool). mixed b k) (sym (eq-eqb (k % 2) 0 e)) ∙ mix-at k h
+pub mix_even : (k : ℕ) → k < length (listed_rules Mix) → k % 2 ≡ 0 → mixed true k ≡ placed Mix k
+mix_even k h e = ap (λ (b : Bool). mixed b k) (sym (eq-eqb (k % 2) 0 e)) ∙ mix-at k h
 
-pub mix-odd : (k : ℕ) → k < length (listed_rules Mix) → (k % 2 ≡ 0 → ⊥) → mixed false k ≡ placed Mix k
-mix-odd k h e = ap (λ (b : Bool). mixed b k) (sym (ne_eqb (k % 2) 0 e)) ∙ mix-at k h
+pub mix_odd : (k : ℕ) → k < length (listed_rules Mix) → (k % 2 ≡ 0 → ⊥) → mixed false k ≡ placed Mix k
+mix_odd k h e = ap (λ (b : Bool). mixed b k) (sym (ne_eqb (k % 2) 0 e)) ∙ mix-at k h
 
 abbrev transpose_place : ℕ → Rule
 transpose_place k =
@@ -128,15 +128,15 @@ transpose_at = at_place Transpose transpose_place refl
 abbrev extract_place : ℕ → Rule
 extract_place k = let input = shaped (concrete_int (k / 4)) (k % 4) in ternary input 5 5 input
 
-pub extract-at : (k : ℕ) → k < length (listed_rules ExtractBits) → extract_place k ≡ placed ExtractBits k
+pub extract_at : (k : ℕ) → k < length (listed_rules ExtractBits) → extract_place k ≡ placed ExtractBits k
 unfolding rule_of listed_rules concrete_int_scalars scalar_or_vecn vector
-extract-at = at_place ExtractBits extract_place refl
+extract_at = at_place ExtractBits extract_place refl
 
 abbrev insert_place : ℕ → Rule
 insert_place k =
     let input = shaped (concrete_int (k / 4)) (k % 4) in
     record { a0 = input; a1 = input; a2 = 5; a3 = 5; count = 4; result = input }
 
-pub insert-at : (k : ℕ) → k < length (listed_rules InsertBits) → insert_place k ≡ placed InsertBits k
+pub insert_at : (k : ℕ) → k < length (listed_rules InsertBits) → insert_place k ≡ placed InsertBits k
 unfolding rule_of listed_rules concrete_int_scalars scalar_or_vecn vector
-insert-at = at_place InsertBits insert_place refl
+insert_at = at_place InsertBits insert_place refl

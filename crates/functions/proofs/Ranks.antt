@@ -1,16 +1,17 @@
--- The bits of a mask by rank: the n-th lowest bit that is set, and from it the n-th rule of a Regular set. Assumes nothing.
+-- The n-th rule of a Regular set, from the rank of its constructor and of its scalar. Assumes nothing.
 use mathlib.Core.Path.{◌≡◌, sym, ap, ap₂, ◌∙◌, subst, subst⁻¹}
-use mathlib.Core.Bool.{Bool, true, false}
-use mathlib.Core.List.{List, ◌∷◌}
-use Prim.Native.Nat.{ℕ, zero, suc, ◌+◌, ◌-◌, ◌*◌, ◌/◌, ◌%◌, ◌≤◌, ◌<◌}
-use native.Mathlib.Nat.{le_of_suc-le-suc, not-suc-le-zero, le_refl, mul-le-mul, mod-lt, div-add-mod'}
+use mathlib.Core.List.{List, [], ◌∷◌}
+use Prim.Native.Nat.{ℕ, zero, suc, ◌+◌, ◌*◌, ◌/◌, ◌%◌, ◌≤◌, ◌<◌}
+use native.Mathlib.Nat.{le_refl, mul-le-mul, mod-lt, div-add-mod'}
 use native.Mathlib.Omega.{arith}
 use lib.Arith.{digits_lt}
 use lib.Count.{ones}
 use lib.Dec.{lit≤}
 use lib.ListN.{length, get_or}
+use Rattle.std.specs.Prelude.{Some, None, slice_get}
+use Rattle.std.proofs.lemmas.Option.{none-some, slice_get_within, get_or_from_slice_get}
 use Rattle.scalars.specs.Domain.{scalar_count}
-use Rattle.scalars.specs.Mask.{cons_if, odd, select, count_from, bits}
+use Rattle.scalars.specs.Mask.{bits}
 use Rattle.types.specs.Domain.{constructor_count}
 use Rattle.types.specs.TypeCode.{type_code}
 use Rattle.regular.specs.Regular.{pairs, codes_of, regular_rules, regular_rule, rule_for}
@@ -19,35 +20,16 @@ use Rattle.functions.specs.private.Built.{Built}
 use Rattle.scalars.specs.Paper.{refusal}
 use Rattle.rules.specs.RulePaper.{no_rule}
 use Rattle.regular.specs.declared.regular.Regular.{Regular}
-use Rattle.scalars.proofs.Bits.{bits-next, bits-within, bits-count, bits-length}
+use Rattle.scalars.proofs.Bits.{bits-next, bits-within, bits-count}
 use Rattle.regular.proofs.Regulars.{codes-count, known_rule}
+use Rattle.functions.proofs.NthBits.{bits_below}
 use Rattle.functions.proofs.Indices.{pairs-at, regular-here, regular-past}
 
--- ---- the bits of a mask
-
--- each bit's number is below the width
-below : (d i n m k : ℕ) → k < length (select (count_from i n) m) → get_or (select (count_from i n) m) k d < i + n
-below d i zero m k h = absurd (not-suc-le-zero h)
-below d i (suc n) m k h = go (odd m) k h (below d (suc i) n (m / 2))
-  where
-    go : (b : Bool) (k : ℕ) → k < length (cons_if b i (select (count_from (suc i) n) (m / 2)))
-        → ((j : ℕ) → j < length (select (count_from (suc i) n) (m / 2)) → get_or (select (count_from (suc i) n) (m / 2)) j d < suc i + n)
-        → get_or (cons_if b i (select (count_from (suc i) n) (m / 2))) k d < i + suc n
-    go true zero h ih = omega arith
-    go true (suc k) h ih = omega (arith, ih k (le_of_suc-le-suc h))
-    go false k h ih = omega (arith, ih k h)
-
-bits_below : (d n m k : ℕ) → k < length (bits n m) → get_or (bits n m) k d < n
-unfolding bits
-bits_below d n m k h = omega (arith, below d 0 n m k h)
-
--- the rank among the bits behind the first
-pub behind : (d : ℕ) {x : ℕ} {xs ys : List ℕ} {i : ℕ} → ys ≡ x ∷ xs → 0 < i → get_or xs (i - 1) d ≡ get_or ys i d
-behind d {x} {xs} {ys} {i} e h = sym (ap (λ (zs : List ℕ). get_or zs i d) e ∙ go i h)
-  where
-    go : (i : ℕ) → 0 < i → get_or (x ∷ xs) i d ≡ get_or xs (i - 1) d
-    go zero h = absurd (not-suc-le-zero h)
-    go (suc i) h = ap (λ (j : ℕ). get_or xs j d) (omega arith)
+-- behind the last element
+got-none : (xs : List ℕ) (k : ℕ) → slice_get xs k ≡ None → length xs ≤ k
+got-none [] k e = omega arith
+got-none (x ∷ xs) zero e = absurd (none-some x (sym e))
+got-none (x ∷ xs) (suc k) e = omega (arith, got-none xs k e)
 
 -- ---- the rules of a Regular set: n scalars make a row, and i is the index of a rule
 
@@ -76,45 +58,56 @@ module _ (r : Regular) (b : Built r) (i : ℕ) where
   pub some-scalar : 0 < n
   some-scalar = omega (arith, scalars, ap length (bits-next 16 scalar_count r.scalars.0 (lit≤ tt) b.some b.known.scalars))
 
-  pub few-constructors : ones r.constructors.0 ≤ constructor_count
-  few-constructors = omega (arith, constructors, bits-length constructor_count r.constructors.0)
-
-  pub few-scalars : n ≤ scalar_count
-  few-scalars = omega (arith, scalars, bits-length scalar_count r.scalars.0)
-
   listed : length (codes_of r) ≡ ones r.constructors.0 * n
   listed = codes-count r b.known
 
   split : i / n * n + i % n ≡ i
   split = div-add-mod' i n
 
-  in_row : i % n < length row
-  in_row = omega (arith, mod-lt i some-scalar, scalars)
+  pub rank-past : slice_get (bits 64 r.constructors.0) (i / n) ≡ None → refusal 7 1 no_rule ≡ rule_in (regular_rules r) i
+  rank-past e =
+      let h : ones r.constructors.0 ≤ i / n = omega (arith, constructors, got-none rows (i / n) (sym (ap (λ (ks : List ℕ). slice_get ks (i / n)) wide_constructors) ∙ e)) in
+      sym (regular-past r i (omega (arith, listed, split, mul-le-mul h (le_refl n))))
 
-  pub rank-past : ones r.constructors.0 ≤ i / n → refusal 7 1 no_rule ≡ rule_in (regular_rules r) i
-  rank-past h = sym (regular-past r i (omega (arith, listed, split, mul-le-mul h (le_refl n))))
+  -- each remainder is the rank of a scalar
+  pub rank-within : slice_get (bits 64 r.scalars.0) (i % n) ≡ None → ⊥
+  rank-within e =
+      omega (arith, mod-lt i some-scalar, scalars, got-none row (i % n) (sym (ap (λ (ss : List ℕ). slice_get ss (i % n)) wide_scalars) ∙ e))
 
-  module _ (h : i / n < ones r.constructors.0) where
-    in_rows : i / n < length rows
-    in_rows = omega (arith, h, constructors)
+  module _ {k s : ℕ} (constructor : slice_get (bits 64 r.constructors.0) (i / n) ≡ Some k) (scalar : slice_get (bits 64 r.scalars.0) (i % n) ≡ Some s) where
+    in_rows : slice_get rows (i / n) ≡ Some k
+    in_rows = sym (ap (λ (ks : List ℕ). slice_get ks (i / n)) wide_constructors) ∙ constructor
 
-    pub constructor-below : get_or (bits 64 r.constructors.0) (i / n) 64 < constructor_count
-    constructor-below = rw wide_constructors (bits_below 64 constructor_count r.constructors.0 (i / n) in_rows)
+    in_row : slice_get row (i % n) ≡ Some s
+    in_row = sym (ap (λ (ss : List ℕ). slice_get ss (i % n)) wide_scalars) ∙ scalar
 
-    pub scalar_below : get_or (bits 64 r.scalars.0) (i % n) 64 < scalar_count
-    scalar_below = rw wide_scalars (bits_below 64 scalar_count r.scalars.0 (i % n) in_row)
+    few-rows : i / n < length rows
+    few-rows = slice_get_within rows (i / n) k in_rows
 
-    code_at : type_code (get_or (bits 64 r.constructors.0) (i / n) 64) (get_or (bits 64 r.scalars.0) (i % n) 64) ≡ get_or (codes_of r) i 0
+    constructor-is : get_or rows (i / n) 64 ≡ k
+    constructor-is = get_or_from_slice_get rows (i / n) k 64 in_rows
+
+    scalar-is : get_or row (i % n) 64 ≡ s
+    scalar-is = get_or_from_slice_get row (i % n) s 64 in_row
+
+    constructor-below : k < constructor_count
+    constructor-below = subst (λ (j : ℕ). j < constructor_count) constructor-is (bits_below 64 constructor_count r.constructors.0 (i / n) few-rows)
+
+    scalar_below : s < scalar_count
+    scalar_below = subst (λ (j : ℕ). j < scalar_count) scalar-is (bits_below 64 scalar_count r.scalars.0 (i % n) (slice_get_within row (i % n) s in_row))
+
+    code_at : type_code k s ≡ get_or (codes_of r) i 0
     unfolding codes_of
     code_at =
-        ap₂ (λ (ks ss : List ℕ). type_code (get_or ks (i / n) 64) (get_or ss (i % n) 64)) wide_constructors wide_scalars
-        ∙ sym (pairs-at 64 rows row (i / n) (i % n) in_row in_rows)
+        sym (ap₂ type_code constructor-is scalar-is)
+        ∙ sym (pairs-at 64 rows row (i / n) (i % n) (slice_get_within row (i % n) s in_row) few-rows)
         ∙ ap (λ (j : ℕ). get_or (pairs rows row) j 0) (ap (λ (m : ℕ). i / n * m + i % n) (sym scalars) ∙ split)
 
     -- the rule of the constructor and the scalar at the ranks is the rule at the index
-    pub rank-here : regular_rule (get_or (bits 64 r.constructors.0) (i / n) 64) (get_or (bits 64 r.scalars.0) (i % n) 64) r ≡ rule_in (regular_rules r) i
+    pub rank-here : regular_rule k s r ≡ rule_in (regular_rules r) i
     rank-here =
-        known_rule r (get_or (bits 64 r.constructors.0) (i / n) 64) (get_or (bits 64 r.scalars.0) (i % n) 64) b.known constructor-below scalar_below
+        let h : i / n < ones r.constructors.0 = omega (arith, few-rows, constructors) in
+        known_rule r k s b.known constructor-below scalar_below
         ∙ ap (rule_for r) code_at
         ∙ regular-here r i b.concludes
         (subst⁻¹ (λ (m : ℕ). i < m) listed (subst (λ (j : ℕ). j < ones r.constructors.0 * n) split (digits_lt h (mod-lt i some-scalar))))

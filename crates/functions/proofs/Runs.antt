@@ -1,5 +1,4 @@
--- An entry of a list by its number: within a run of equal entries, or in a list that a function numbers; and a number that none of the
--- keys of a `match` is. Assumes nothing.
+-- An entry of a list by its number: within a run of equal entries, or in a list that a function numbers. Assumes nothing.
 use mathlib.Core.Path.{◌≡◌, refl, sym, ap, ◌∙◌}
 use mathlib.Core.List.{List, [], ◌∷◌, map}
 use Prim.Native.Nat.{ℕ, zero, suc, ◌+◌, ◌-◌, ◌≤◌, ◌<◌}
@@ -8,7 +7,6 @@ use native.Mathlib.Numerals.{add-one}
 use native.Mathlib.Omega.{arith}
 use lib.ListN.{length, take, drop, get_or, replicate, get_or-replicate, drop_of_length-le}
 use lib.Seq.{get_or-take, drop-cons}
-use types.Run.{OneOf}
 use Rattle.scalars.specs.Mask.{up_to}
 use Rattle.scalars.proofs.Bits.{up_to-length, up_to-at}
 use Rattle.scalars.proofs.Prefixes.{map_at}
@@ -48,16 +46,3 @@ module _ {A : Type 0} (d : A) where
       only : (j : ℕ) → get_or (d ∷ []) j d ≡ d
       only zero = refl
       only (suc j) = refl
-
--- the next number
-pub past : {k f : ℕ} → k ≤ f → (f ≡ k → ⊥) → suc k ≤ f
-past h d = omega arith
-
--- f is none of the keys k, k + 1, .. of n arms that follow others, as a `match` says it behind them
-abbrev NoneOf : Type 0 → ℕ → ℕ → ℕ → Type 0
-NoneOf B k zero f = B
-NoneOf B k (suc n) f = NoneOf B k n f × (OneOf ((k + n) ∷ []) f → ⊥)
-
-pub none_of : (B : Type 0) (k n : ℕ) {f : ℕ} → NoneOf B k n f → k ≤ f → k + n ≤ f
-none_of B k zero c h = omega arith
-none_of B k (suc n) {f} c h = omega (arith, past (none_of B k n c.0 h) c.1)

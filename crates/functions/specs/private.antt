@@ -1,2 +1,3 @@
 -- What the contracts of the crate's own functions say.
 pub mod Built
+pub mod Sizes

@@ -17,7 +17,7 @@ use scalars::{Scalar, UNUSED};
 // Mix has two rules for each type: of a ratio of that type, and of a scalar one.
 const RATIOS: u8 = 2;
 
-// The functions that have a List.
+// The functions that have a List. Data: a definition speaks of a function by its case.
 #[derive(Clone, Copy)]
 pub enum ListFunction {
     Ldexp,
@@ -30,6 +30,7 @@ pub enum ListFunction {
 }
 
 // How many rules a List has.
+#[tactic(auto, unfolding(crate::specs::ListedRules::listed_rules, crate::specs::Sequences::float_scalars, crate::specs::Sequences::concrete_float_scalars, crate::specs::Sequences::concrete_int_scalars, crate::specs::Sequences::vector_sizes, crate::specs::Sequences::scalar_or_vecn))]
 pub fn rule_count(listed: ListFunction) -> u8
     ensures { result ≡ length (listed_rules listed) }
 {
@@ -45,6 +46,7 @@ pub fn rule_count(listed: ListFunction) -> u8
 }
 
 // The rule at a place of a List; BLANK behind the last one.
+#[tactic(auto, using(crate::proofs::Places::within, crate::proofs::Places::behind))]
 pub fn listed_rule(listed: ListFunction, k: u8) -> Rule
     ensures { result ≡ get_or (map rule_of (listed_rules listed)) k blank_rule }
 {
@@ -62,7 +64,10 @@ pub fn listed_rule(listed: ListFunction, k: u8) -> Rule
     }
 }
 
+// One function for each List, since each has arguments of its own.
+//
 // The mantissa may be of any floating-point type; the exponent is its integer counterpart.
+#[tactic(auto, using(crate::proofs::Places::ldexp_at))]
 fn ldexp(k: u8) -> Rule
     requires { k < length (listed_rules ListFunction.Ldexp) }
     ensures { result ≡ get_or (map rule_of (listed_rules ListFunction.Ldexp)) k blank_rule }
@@ -80,6 +85,7 @@ fn ldexp(k: u8) -> Rule
 }
 
 // The result takes its columns from the left operand and its rows from the right one.
+#[tactic(auto, using(crate::proofs::Places::outer_at))]
 fn outer(k: u8) -> Rule
     requires { k < length (listed_rules ListFunction.Outer) }
     ensures { result ≡ get_or (map rule_of (listed_rules ListFunction.Outer)) k blank_rule }
@@ -98,6 +104,7 @@ fn outer(k: u8) -> Rule
 }
 
 // The ratio has the operands' scalar.
+#[tactic(auto, using(crate::proofs::Places::refract_at))]
 fn refract(k: u8) -> Rule
     requires { k < length (listed_rules ListFunction.Refract) }
     ensures { result ≡ get_or (map rule_of (listed_rules ListFunction.Refract)) k blank_rule }
@@ -115,6 +122,7 @@ fn refract(k: u8) -> Rule
 }
 
 // The ratio has the type of the operands, or their scalar: for scalars these are the same rule, listed twice as in the crate.
+#[tactic(auto, using(crate::proofs::Places::mix_even, crate::proofs::Places::mix_odd))]
 fn mix(k: u8) -> Rule
     requires { k < length (listed_rules ListFunction.Mix) }
     ensures { result ≡ get_or (map rule_of (listed_rules ListFunction.Mix)) k blank_rule }
@@ -133,6 +141,7 @@ fn mix(k: u8) -> Rule
 }
 
 // The result swaps columns and rows.
+#[tactic(auto, using(crate::proofs::Places::transpose_at))]
 fn transpose(k: u8) -> Rule
     requires { k < length (listed_rules ListFunction.Transpose) }
     ensures { result ≡ get_or (map rule_of (listed_rules ListFunction.Transpose)) k blank_rule }
@@ -151,6 +160,7 @@ fn transpose(k: u8) -> Rule
 }
 
 // The offset and the count are U32.
+#[tactic(auto, using(crate::proofs::Places::extract_at))]
 fn extract_bits(k: u8) -> Rule
     requires { k < length (listed_rules ListFunction.ExtractBits) }
     ensures { result ≡ get_or (map rule_of (listed_rules ListFunction.ExtractBits)) k blank_rule }
@@ -167,6 +177,7 @@ fn extract_bits(k: u8) -> Rule
 }
 
 // The offset and the count are U32.
+#[tactic(auto, using(crate::proofs::Places::insert_at))]
 fn insert_bits(k: u8) -> Rule
     requires { k < length (listed_rules ListFunction.InsertBits) }
     ensures { result ≡ get_or (map rule_of (listed_rules ListFunction.InsertBits)) k blank_rule }

@@ -11,6 +11,7 @@ pub fn read_full(input: &mut impl Read, into: &mut [u8]) -> io::Result<usize>
     ensures { IfOk result (λ n. n ≤ length into.new) }
 {
     let mut done = 0;
+    // Counted, so that it ends whatever the reader answers; `read_to_end` would ask for memory.
     for _ in 0..u64::MAX {
         let n = input.read(&mut into[done..])?;
         if n == 0 {

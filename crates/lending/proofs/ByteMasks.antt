@@ -6,6 +6,8 @@ use mathlib.Core.List.{List, [], ◌∷◌, ◌++◌}
 use Prim.Native.Nat.{ℕ, zero, suc, ◌+◌, ◌-◌, ◌*◌, ◌/◌, ◌%◌, ◌^◌, ◌≤◌, ◌<◌, min}
 use native.Mathlib.Nat.{pow-succ', pow-le-pow_right, zero-add}
 use native.Mathlib.Omega.{arith}
+use mir.Syntax.{w8}
+use mir.Val.{Fits}
 use lib.Dec.{leb}
 use lib.ListN.{length, get_or, take, drop, length-drop}
 use lib.Seq.{sets, sets-eq, length-take-le, get_or-take, get_or-drop}
@@ -15,8 +17,12 @@ use Rattle.scalars.specs.Paper.{accepted, refusal}
 use Rattle.lending.specs.Masks.{bytes_for, mask_in, mask_read, mask_bytes, room_for, lent_after}
 
 -- each is a byte
-abbrev pub Bytes : List ℕ → Type 0
+abbrev Bytes : List ℕ → Type 0
 Bytes xs = (i : ℕ) → i < length xs → get_or xs i 0 < 256
+
+-- as a slice of bytes says it
+abbrev pub FitBytes : List ℕ → Type 0
+FitBytes xs = (i : ℕ) → Fits w8 (get_or xs i 0)
 
 rest-bytes : (b : ℕ) (bs : List ℕ) → Bytes (b ∷ bs) → Bytes bs
 rest-bytes b bs s i h = s (suc i) (omega arith)
@@ -78,9 +84,9 @@ module _ (xs : List ℕ) (n : ℕ) (l : n ≤ length xs) where
   long : length (take n xs) ≡ n
   long = length-take-le n xs l
 
-  module _ (s : Bytes xs) where
+  module _ (s : FitBytes xs) where
     first_bytes_lem : Bytes (take n xs)
-    first_bytes_lem i h = let k : i < n = omega (arith, long) in rw (get_or-take n xs i 0 k) (s i (omega arith))
+    first_bytes_lem i h = let k : i < n = omega (arith, long) in rw (get_or-take n xs i 0 k) ((s i).fits)
 
     later-bytes : (k : ℕ) → Bytes (drop k (take n xs))
     later-bytes k i h = rw (get_or-drop k (take n xs) i 0) (first_bytes_lem (k + i) (omega (arith, length-drop k (take n xs))))
@@ -94,7 +100,7 @@ unfolding bytes_for mask_in
 no_stray xs n e = sym (ap (λ (k : ℕ). leb (2 ^ k) (mask_in (take ((k + 7) / 8) xs))) e)
 
 -- the test of the last byte, where there is a rule
-pub stray-last : (xs : List ℕ) → Bytes xs → (n : ℕ) → 0 < n → bytes_for n ≤ length xs
+pub stray-last : (xs : List ℕ) → FitBytes xs → (n : ℕ) → 0 < n → bytes_for n ≤ length xs
     → leb (2 ^ (n - (n - 1) / 8 * 8)) (get_or xs ((n - 1) / 8) 0) ≡ leb (2 ^ n) (mask_in (take (bytes_for n) xs))
 unfolding bytes_for
 stray-last xs s n some l =

@@ -1,10 +1,9 @@
 -- Masks of rules as lent bytes. A mask over n rules takes n / 8 bytes, rounded up, low byte first: bit 0 of the first byte stands for
 -- rule 0, bit 0 of the second for rule 8.
-use Rattle.std.specs.Prelude.{List, [], ◌∷◌, ◌++◌, ℕ, zero, suc, ◌+◌, ◌*◌, ◌/◌, ◌%◌, ◌^◌, min, leb, ltb, length, take, drop}
+use Rattle.std.specs.Prelude.{List, [], ◌∷◌, ◌++◌, ℕ, zero, suc, ◌+◌, ◌*◌, ◌/◌, ◌%◌, ◌^◌, min, leb, ltb, length, take, drop, Result}
 use Rattle.scalars.specs.Mask.{choose}
-use Rattle.scalars.specs.Paper.{Paper, accepted, refusal, refused, unused}
-use Rattle.lending.specs.declared.masks.MaskAnswer.{MaskAnswer}
-use Rattle.lending.specs.declared.masks.MaskAnswer.TheVariants.{Mask, Refused}
+use Rattle.scalars.specs.Paper.{Paper, accepted, refusal, answer_paper, unused}
+use Rattle.scalars.specs.declared.refusal.Refusal.{Refusal}
 
 -- how many bytes n rules need
 unfoldable pub bytes_for : ℕ → ℕ
@@ -25,9 +24,8 @@ mask_read n bytes =
     (accepted (mask_in (take (min 8 (bytes_for n)) bytes) ∷ [])))
 
 -- the paper's number, place and value where a mask is answered
-abbrev pub mask_paper : MaskAnswer → Paper
-mask_paper (Mask m) = accepted (m ∷ [])
-mask_paper (Refused why) = refused why (unused ∷ [])
+abbrev pub mask_paper : Result ℕ Refusal → Paper
+mask_paper = answer_paper (λ m. m ∷ []) (unused ∷ [])
 
 -- ---- a mask written to bytes
 

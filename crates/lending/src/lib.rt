@@ -8,4 +8,4 @@ mod bytes;
 mod masks;
 
 pub use bytes::lend_bytes;
-pub use masks::{MaskAnswer, lend_mask, mask_in};
+pub use masks::{lend_mask, mask_in};

@@ -8,10 +8,10 @@ use Rattle.lists.specs.ChosenPaper.{list_values}
 use Rattle.lists.specs.declared.list.List.{List}
 use Rattle.rules.proofs.RulePapers.{rules_named, rules-back}
 
-abbrev list_named : L.List ℕ → List
+abbrev pub list_named : L.List ℕ → List
 list_named vs = record { len = get_or vs 0 0; members = get_or vs 1 0; rules = rules_named (drop 2 vs) }
 
-list_back : (l : List) → list_named (list_values l) ≡ l
+pub list_back : (l : List) → list_named (list_values l) ≡ l
 list_back l = ap (λ (rs : L.List declared.Rule). record { len = l.len; members = l.members; rules = rs }) (rules-back l.rules)
 
 pub list_values-one : (a b : List) → list_values a ≡ list_values b → a ≡ b

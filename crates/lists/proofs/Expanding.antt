@@ -3,30 +3,29 @@ use mathlib.Core.Path.{◌≡◌, sym, ap, ap₂, ◌∙◌}
 use mathlib.Core.Bool.{Bool, true, false}
 use mathlib.Core.List as L
 use mathlib.Core.List.{[], ◌∷◌, ◌++◌, map, append_assoc}
-use Prim.Native.Nat.{ℕ, zero, suc, ◌-◌, ◌^◌, ◌≤◌, ◌<◌}
+use Prim.Native.Nat.{ℕ, zero, suc, ◌-◌, ◌*◌, ◌^◌, ◌≤◌, ◌<◌}
 use native.Mathlib.Nat.{suc-sub-suc, sub-zero}
 use native.Mathlib.Omega.{arith}
+use lib.Count.{ones}
 use lib.Dec.{leb}
 use lib.ListN.{length, take, drop, replicate, length-map, length-replicate, length-append}
 use lib.Seq.{take_at}
 use borrow.Author.Tests.{le-leb, lt-leb}
 use Rattle.scalars.specs.Mask.{choose, padded}
 use Rattle.rules.specs.Rule.{blank_rule, rule_of}
-use Rattle.scalars.specs.Paper.{unused, Paper, accepted, refusal, values, refused, beside, count_paper}
-use Rattle.rules.specs.RulePaper.{rules_values, listing_paper}
+use Rattle.scalars.specs.Paper.{Paper, accepted, refusal, values, refused}
+use Rattle.rules.specs.RulePaper.{rules_values}
 use Rattle.rules.proofs.RulePapers.{rules-one}
 use Rattle.rules.specs.Listing.{most_listed, accepted_listing, no_listing}
 use Rattle.rules.specs.Verdict.{on_verdict}
 use Rattle.lists.specs.List.{most_rules, accepted_list, no_list_values}
-use Rattle.regular.specs.Regular.{codes_of, regular_rules, regular_verdict, all_conclude, regular_listing}
-use Rattle.regular.specs.private.Tested.{concluded_listing}
+use Rattle.regular.specs.Regular.{regular_rules, regular_verdict, all_conclude, regular_listing}
 use Rattle.lists.specs.Expansion.{list_of, expanded}
-use Rattle.scalars.specs.declared.answer.CountAnswer.{CountAnswer}
-use Rattle.scalars.specs.declared.answer.CountAnswer.TheVariants as count
 use Rattle.rules.specs.declared.listing.Listing.{Listing}
 use Rattle.scalars.specs.declared.refusal.Refusal.{Refusal}
 use Rattle.regular.specs.declared.regular.Regular.{Regular}
 use Rattle.rules.specs.declared.rule.Rule.{Rule}
+use Rattle.regular.proofs.Regulars.{accepted-known, codes-count}
 use Rattle.regular.proofs.Listings.{rules-count}
 
 -- fewer blanks behind the same rules
@@ -45,43 +44,49 @@ module _ {A : Type 0} where
       ∙ ap (take n) (sym (append_assoc xs (replicate (n - length xs) b) back))
       ∙ take_at front back n (length-append xs (replicate (n - length xs) b) ∙ omega (arith, length-replicate (n - length xs) b))
 
-module _ (r : Regular) (ok : regular_verdict r ≡ accepted []) where
-  pub expand_many : {n : ℕ} → n ≡ length (codes_of r) → most_rules < n → refusal 3 0 no_list_values ≡ expanded r
+-- of a set that is refused, and of one that is accepted, whose rules are as many as the product of its two counts
+pub expand_unknown : (r : Regular) (why : Refusal) → refused why [] ≡ regular_verdict r → refused why no_list_values ≡ expanded r
+unfolding expanded
+expand_unknown r why is = rw (sym is)
+
+module _ (r : Regular) (ok : accepted [] ≡ regular_verdict r) where
+  many : ones r.constructors.0 * ones r.scalars.0 ≡ length (regular_rules r)
+  many = sym (rules-count r ∙ codes-count r (accepted-known r (sym ok)))
+
+  pub expand_many : most_rules < ones r.constructors.0 * ones r.scalars.0 → refusal 3 0 no_list_values ≡ expanded r
   unfolding expanded
-  expand_many {n} e h = rw ok (sym (ap (λ (b : Bool). choose b (choose (all_conclude r) (accepted_list (list_of (regular_rules r))) (refusal 13 0 no_list_values)) (refusal 3 0 no_list_values)) (lt-leb (length (regular_rules r)) most_rules (omega (arith, rules-count r)))))
+  expand_many h = rw (sym ok, lt-leb (length (regular_rules r)) most_rules (omega (arith, many)))
 
-  module _ {n : ℕ} (e : n ≡ length (codes_of r)) (h : n ≤ most_rules) (l : Listing) (asked : listing_paper l ≡ regular_listing r) where
+  module _ (h : ones r.constructors.0 * ones r.scalars.0 ≤ most_rules) where
     few : leb (length (regular_rules r)) most_rules ≡ true
-    few = le-leb (length (regular_rules r)) most_rules (omega (arith, rules-count r))
+    few = le-leb (length (regular_rules r)) most_rules (omega (arith, many))
 
-    -- the listing's paper, by the answer that stands in it
-    q : (a : CountAnswer) → l.answer ≡ a → beside (count_paper a) (rules_values l.rules) ≡ concluded_listing r
-    unfolding regular_listing concluded_listing
-    q a f = ap (λ (x : CountAnswer). beside (count_paper x) (rules_values l.rules)) (sym f) ∙ asked ∙ ap (λ (v : Paper). on_verdict v (concluded_listing r) no_listing) ok
+    -- the listing's paper, of a set that is accepted
+    said : {p : Paper} → p ≡ regular_listing r → p ≡ choose (all_conclude r) (accepted_listing (regular_rules r)) (refusal 13 0 no_listing)
+    unfolding regular_listing
+    said asked = asked ∙ ap (λ (v : Paper). on_verdict v (choose (all_conclude r) (accepted_listing (regular_rules r)) (refusal 13 0 no_listing)) no_listing) (sym ok)
 
-    pub expand_refused : (why : Refusal) → l.answer ≡ count.Refused why → refused why no_list_values ≡ expanded r
-    unfolding expanded concluded_listing accepted_listing
-    expand_refused why a = rw (ok, few) (go (all_conclude r) (q (count.Refused why) a))
+    pub expand_refused : (why : Refusal) → refused why no_listing ≡ regular_listing r → refused why no_list_values ≡ expanded r
+    unfolding expanded accepted_listing
+    expand_refused why asked = rw (sym ok, few) (go (all_conclude r) (said asked))
       where
-        go : (b : Bool) → refused why (unused ∷ rules_values l.rules) ≡ choose b (accepted_listing (regular_rules r)) (refusal 13 0 no_listing)
+        go : (b : Bool) → refused why no_listing ≡ choose b (accepted_listing (regular_rules r)) (refusal 13 0 no_listing)
             → refused why no_list_values ≡ choose b (accepted_list (list_of (regular_rules r))) (refusal 13 0 no_list_values)
-        go true f = let z : ◌≡◌ {A = ℕ} 0 1 = cc in absurd (omega arith)
+        go true f = cc
         go false f = cc
 
-    pub expand_list : (k : ℕ) → l.answer ≡ count.Count k → (rules : L.List Rule) (members : ℕ) → rules ≡ take most_rules l.rules → members ≡ choose (leb n most_rules) (2 ^ n - 1) 0
-        → accepted_list (record { rules = rules; len = n; members = members }) ≡ expanded r
-    unfolding expanded concluded_listing accepted_listing list_of
-    expand_list k a rules members t m = rw (ok, few) (go (all_conclude r) (q (count.Count k) a))
+    pub expand_list : (l : Listing) → accepted (l.count ∷ rules_values l.rules) ≡ regular_listing r → {rules : L.List Rule} {members : ℕ} → rules ≡ take most_rules l.rules
+        → members ≡ choose (leb (ones r.constructors.0 * ones r.scalars.0) most_rules) (2 ^ (ones r.constructors.0 * ones r.scalars.0) - 1) 0
+        → accepted_list (record { rules = rules; len = ones r.constructors.0 * ones r.scalars.0; members = members }) ≡ expanded r
+    unfolding expanded accepted_listing list_of
+    expand_list l asked {rules} {members} t m = rw (sym ok, few) (go (all_conclude r) (said asked))
       where
-        count-is : n ≡ length (regular_rules r)
-        count-is = e ∙ sym (rules-count r)
-
-        go : (b : Bool) → accepted (k ∷ rules_values l.rules) ≡ choose b (accepted_listing (regular_rules r)) (refusal 13 0 no_listing)
-            → accepted_list (record { rules = rules; len = n; members = members }) ≡ choose b (accepted_list (list_of (regular_rules r))) (refusal 13 0 no_list_values)
+        go : (b : Bool) → accepted (l.count ∷ rules_values l.rules) ≡ choose b (accepted_listing (regular_rules r)) (refusal 13 0 no_listing)
+            → accepted_list (record { rules = rules; len = ones r.constructors.0 * ones r.scalars.0; members = members }) ≡ choose b (accepted_list (list_of (regular_rules r))) (refusal 13 0 no_list_values)
         go true f =
             ap accepted_list (
-            ap₂ (λ (x : L.List Rule) (m : ℕ). record { rules = x; len = n; members = m })
-            (t ∙ ap (take most_rules) (rules-one l.rules (padded most_listed blank_rule (map rule_of (regular_rules r))) (ap (λ (p : Paper). drop 1 (values p)) f)) ∙ fewer_blanks most_rules most_listed blank_rule (map rule_of (regular_rules r)) (omega (arith, length-map (regular_rules r) rule_of, rules-count r)) (omega arith))
-            (m ∙ ap (λ (b : Bool). choose b (2 ^ n - 1) 0) (le-leb n most_rules h))
-            ∙ ap (λ (c : ℕ). record { rules = padded most_rules blank_rule (map rule_of (regular_rules r)); len = c; members = 2 ^ c - 1 }) count-is)
-        go false f = let z : ◌≡◌ {A = ℕ} 0 1 = cc in absurd (omega arith)
+            ap₂ (λ (x : L.List Rule) (m : ℕ). record { rules = x; len = ones r.constructors.0 * ones r.scalars.0; members = m })
+            (t ∙ ap (take most_rules) (rules-one l.rules (padded most_listed blank_rule (map rule_of (regular_rules r))) (ap (λ (p : Paper). drop 1 (values p)) f)) ∙ fewer_blanks most_rules most_listed blank_rule (map rule_of (regular_rules r)) (omega (arith, length-map (regular_rules r) rule_of, many)) (omega arith))
+            (m ∙ ap (λ (b : Bool). choose b (2 ^ (ones r.constructors.0 * ones r.scalars.0) - 1) 0) (le-leb (ones r.constructors.0 * ones r.scalars.0) most_rules h))
+            ∙ ap (λ (c : ℕ). record { rules = padded most_rules blank_rule (map rule_of (regular_rules r)); len = c; members = 2 ^ c - 1 }) many)
+        go false f = cc

@@ -3,10 +3,10 @@ pub mod Entries
 pub mod Lists
 pub mod Steps
 pub mod StepsTogether
+pub mod Everies
 pub mod Cleans
 pub mod Verdicts
 pub mod TypesAt
 pub mod Expanding
 pub mod Expansions
 pub mod ChosenPapers
-pub mod AnyPapers

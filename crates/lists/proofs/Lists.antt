@@ -1,21 +1,19 @@
 -- Laws of a List: its lengths, one turn of a walk over its members, and its first member. Assumes nothing.
 use mathlib.Core.Path.{◌≡◌, refl, sym, ap, ◌∙◌, subst, subst⁻¹}
-use mathlib.Core.Bool.{Bool}
+use mathlib.Core.Bool.{Bool, true, false}
 use mathlib.Core.List as L
 use mathlib.Core.List.{[], ◌∷◌, map}
 use Prim.Native.Nat.{ℕ, ◌+◌, ◌-◌, ◌%◌, ◌^◌, ◌≤◌, ◌<◌, min}
 use native.Mathlib.Nat.{mod-lt, lt_of_lt_of_le}
 use native.Mathlib.Omega.{arith}
+use lib.Dec.{eqb}
+use borrow.Author.Tests.{eqb-true, eqb-false}
 use lib.ListN.{length, get_or, length-append, length-take, length-map, length-replicate, get_or-append, get_or-map}
 use lib.Pow.{pow_pos, pow_mono}
 use lib.Seq.{get_or-take}
-use Rattle.scalars.specs.Mask.{select, sift, bits, head_or}
+use Rattle.scalars.specs.Mask.{select, sift, bits, head_or, digit}
 use Rattle.scalars.specs.OneBits.{step_of}
-use Rattle.scalars.specs.Paper.{accepted, refusal, unused, walk_paper}
-use Rattle.scalars.specs.declared.one_bits_iter.OneBit.{OneBit}
-use Rattle.scalars.specs.declared.one_bits_iter.OneBitsIter.{OneBitsIter}
-use Rattle.scalars.specs.declared.one_bits_iter.BitStep.{BitStep}
-use Rattle.scalars.specs.declared.one_bits_iter.BitStep.TheVariants.{Bit, Done}
+use Rattle.scalars.specs.Paper.{accepted, refusal, unused}
 use Rattle.rules.specs.Signature.{Signature}
 use Rattle.lists.specs.Entry.{Entry, number}
 use Rattle.rules.specs.Verdict.{longest, count_of, empty_of}
@@ -25,6 +23,7 @@ use Rattle.lists.specs.private.Tested.{Valid}
 use Rattle.lists.specs.declared.list.List.{List}
 use Rattle.rules.specs.RulePaper.{rule_values}
 use Rattle.rules.specs.declared.rule.Rule.{Rule}
+use Rattle.rules.proofs.Records.{zero_rule}
 use Rattle.scalars.proofs.Masks.{select-length, select_mod, select-none, sift_mod}
 use Rattle.scalars.proofs.Walks.{Walked, walked, ended, lowest}
 use Rattle.scalars.proofs.Prefixes.{map_at}
@@ -86,16 +85,20 @@ module _ (l : List) {k : ℕ} {x : Rule} (is : x ≡ get_or l.rules k blank_rule
 
 -- ---- a turn of a walk: the record at the lowest bit's number is the lowest member's
 
-pub turned : (d : Rule) (l : List) (m : ℕ) {s : BitStep} {b : OneBit} {r : OneBitsIter} {k : ℕ} {x : Rule} → length l.rules ≡ most_rules → m < 2 ^ length (signatures l)
-    → s ≡ Bit b r → walk_paper s ≡ step_of (bits 64 m) → k ≡ head_or 64 (bits 64 b.0) → x ≡ get_or l.rules k d
-    → Walked (signature_of x) (signatures l) m k b.0 r.0
-turned d l m {b = b} {r = r} {k = k} long h e n f is =
-    let t = walked (signature_of d) (signatures l) m (signatures-few l long) h e n f in
-    subst (λ (s : Signature). Walked s (signatures l) m k b.0 r.0) (rule-says l d is t.below) t
+pub turned : (d : Rule) (l : List) (m : ℕ) {b r k : ℕ} {x : Rule} → length l.rules ≡ most_rules → m < 2 ^ length (signatures l)
+    → accepted (b ∷ r ∷ []) ≡ step_of (bits 64 m) → k ≡ head_or 64 (bits 64 b) → x ≡ get_or l.rules k d
+    → Walked (signature_of x) (signatures l) m k b r
+turned d l m {b = b} {r = r} {k = k} long h n f is =
+    let t = walked (signature_of d) (signatures l) m (signatures-few l long) h n f in
+    subst (λ (s : Signature). Walked s (signatures l) m k b r) (rule-says l d is t.below) t
 
--- and its place is within the array
-pub turned-below : (l : List) → length l.rules ≡ most_rules → {s : Signature} {m k b r : ℕ} → Walked s (signatures l) m k b r → k < most_rules
-turned-below l long t = omega (arith, t.below, many l long)
+-- of any List the record that is read in place, and its place is within the array
+module _ (l : List) {m b r k : ℕ} (long : length l.rules ≡ most_rules) (h : m < 2 ^ length (signatures l)) (n : accepted (b ∷ r ∷ []) ≡ step_of (bits 64 m)) (f : k ≡ head_or 64 (bits 64 b)) where
+  pub read_turn : Walked (signature_of (get_or l.rules k zero_rule)) (signatures l) m k b r
+  read_turn = turned zero_rule l m long h n f refl
+
+  pub read_below : k < most_rules
+  read_below = omega (arith, read_turn.below, many l long)
 
 -- of a List that was tested, the record itself
 pub turned_record : (l : List) → Valid l → {m k b r : ℕ} {x : Rule} → Walked (signature_of x) (signatures l) m k b r → x ≡ get_or l.rules k blank_rule
@@ -104,9 +107,8 @@ turned_record l v {r = r} t is =
     ap (map rule_of) t.members ∙ ap (λ (y : Rule). y ∷ map rule_of (select (signatures l) r)) (rule-clean l is v t.below)
 
 -- at the end no member is left
-pub turned_out : (l : List) (m : ℕ) {s : BitStep} → length l.rules ≡ most_rules → m < 2 ^ length (signatures l)
-    → s ≡ Done → walk_paper s ≡ step_of (bits 64 m) → m ≡ 0
-turned_out l m long h e n = ended m (lt_of_lt_of_le h (pow_mono (signatures-few l long))) e n
+pub turned_out : (l : List) (m : ℕ) → length l.rules ≡ most_rules → m < 2 ^ length (signatures l) → accepted [] ≡ step_of (bits 64 m) → m ≡ 0
+turned_out l m long h n = ended m (lt_of_lt_of_le h (pow_mono (signatures-few l long))) n
 
 pub none_left : (l : List) {m : ℕ} → m ≡ 0 → select (signatures l) m ≡ []
 none_left l e = ap (select (signatures l)) e ∙ select-none (signatures l)
@@ -125,6 +127,14 @@ first_member l m long q h = (lowest (signature_of blank_rule) (signatures l) m (
 pub listing-some : (l : List) → Valid l → 0 < l.members → empty_of (listing l) ≡ accepted (0 ∷ [])
 unfolding listing
 listing-some l v q = ap empty_of (first_member l l.members (valid-long l v) q (valid-within l v))
+
+-- some member is left if and only if some bit is set
+pub listing-empty : (l : List) → Valid l → accepted (digit (eqb l.members 0) ∷ []) ≡ empty_of (listing l)
+listing-empty l v = go (eqb l.members 0) refl
+  where
+    go : (b : Bool) → eqb l.members 0 ≡ b → accepted (digit b ∷ []) ≡ empty_of (listing l)
+    go true e = sym (ap empty_of (listing_none l (eqb-true l.members 0 e)))
+    go false e = sym (listing-some l v (omega (arith, eqb-false l.members 0 e)))
 
 -- of any List the members that have a rule say the same: those without are in no listing and pass no test
 module _ (l : List) (long : length l.rules ≡ most_rules) (q : ℕ) {m : ℕ} (is : m ≡ q % 2 ^ min l.len most_rules) where

@@ -26,15 +26,17 @@ kept-both true false b = refl
 kept-both false true b = refl
 kept-both false false b = refl
 
--- a turn: the member's bit is kept by the one test, and by both
-module _ (i t : ℕ) {x : Signature} {xs : L.List Signature} {m k b r : ℕ} (turn : Walked x xs m k b r) {s : Bool} {shape : ℕ}
-    (s-is : s ≡ fits Shape i t x) (Shape-is : shape ≡ choose s b 0) where
-  pub shape-turn : sift (fits Shape i t) xs m ≡ shape + sift (fits Shape i t) xs r
-  shape-turn = turn.step (fits Shape i t) ∙ ap (λ (v : ℕ). v + sift (fits Shape i t) xs r) (ap (λ (c : Bool). gain c b) (sym s-is) ∙ kept-one s b ∙ sym Shape-is)
+-- a turn of a walk: the member's bit is kept where its rule passes a test
+pub kept-turn : (p : Signature → Bool) {x : Signature} {xs : L.List Signature} {m k b r kept : ℕ} {s : Bool} → Walked x xs m k b r → s ≡ p x → kept ≡ choose s b 0
+    → sift p xs m ≡ kept + sift p xs r
+kept-turn p {xs = xs} {b = b} {r = r} {s = s} turn s-is kept-is =
+    turn.step p ∙ ap (λ (v : ℕ). v + sift p xs r) (ap (λ (c : Bool). gain c b) (sym s-is) ∙ kept-one s b ∙ sym kept-is)
 
-  pub both-turn : {n : Bool} {number : ℕ} → n ≡ fits Number i t x → number ≡ choose n shape 0 → sift (takes i t) xs m ≡ number + sift (takes i t) xs r
-  both-turn {n} {number} n-is number_is =
-      turn.step (takes i t)
-      ∙ ap (λ (v : ℕ). v + sift (takes i t) xs r)
-      (ap (λ (c : Bool). gain c b) (takes-both i t x ∙ ap₂ both (sym s-is) (sym n-is)) ∙ kept-both s n b
-      ∙ ap (λ (v : ℕ). choose n v 0) (sym Shape-is) ∙ sym number_is)
+-- and where it passes the operand's two tests, one after the other
+pub both-turn : (i t : ℕ) {x : Signature} {xs : L.List Signature} {m k b r shape number : ℕ} {s n : Bool} → Walked x xs m k b r → s ≡ fits Shape i t x → shape ≡ choose s b 0
+    → n ≡ fits Number i t x → number ≡ choose n shape 0 → sift (takes i t) xs m ≡ number + sift (takes i t) xs r
+both-turn i t {x} {xs} {b = b} {r = r} {shape = shape} {s = s} {n = n} turn s-is shape-is n-is number-is =
+    turn.step (takes i t)
+    ∙ ap (λ (v : ℕ). v + sift (takes i t) xs r)
+    (ap (λ (c : Bool). gain c b) (takes-both i t x ∙ ap₂ both (sym s-is) (sym n-is)) ∙ kept-both s n b
+    ∙ ap (λ (v : ℕ). choose n v 0) (sym shape-is) ∙ sym number-is)

@@ -1,22 +1,27 @@
 -- The paper's number, place and values where a set of either kind is answered.
 use mathlib.Core.List as L
-use Rattle.std.specs.Prelude.{[], ◌∷◌, ◌++◌, ℕ}
-use Rattle.scalars.specs.Paper.{Paper, beside, verdict_paper}
+use Rattle.std.specs.Prelude.{Result, ◌∷◌, ◌++◌, ℕ, replicate}
+use Rattle.scalars.specs.Paper.{Paper, answer_paper}
+use Rattle.scalars.specs.declared.refusal.Refusal.{Refusal}
+use Rattle.rules.specs.Rule.{blank_rule}
 use Rattle.rules.specs.RulePaper.{rules_values}
-use Rattle.regular.specs.SetPaper.{regular_values}
+use Rattle.regular.specs.SetPaper.{regular_values, no_set}
+use Rattle.lists.specs.ChosenPaper.{most_rules, list_values}
 use Rattle.lists.specs.declared.any_overload_set.AnyOverloadSet.{AnyOverloadSet}
-use Rattle.lists.specs.declared.any_overload_set.AnyAnswer.{AnyAnswer}
-use Rattle.lists.specs.declared.any_overload_set.SetKind.{SetKind}
-use Rattle.lists.specs.declared.any_overload_set.SetKind.TheVariants.{Regular, List}
+use Rattle.lists.specs.declared.any_overload_set.AnyOverloadSet.TheVariants.{Regular, List}
 
--- 0 and a Regular set's parts, or 1 and a List's length and members
-abbrev pub kind_values : SetKind → L.List ℕ
-kind_values (Regular r) = 0 ∷ regular_values r
-kind_values (List n m) = 1 ∷ n ∷ m ∷ []
+-- 63 rules, none of them in use
+unfoldable pub no_rules : L.List ℕ
+no_rules = rules_values (replicate most_rules blank_rule)
 
--- and behind them the 63 rules
+-- 0, a Regular set's parts and no rules, or 1 and a List's values
 abbrev pub any_values : AnyOverloadSet → L.List ℕ
-any_values s = kind_values s.kind ++ rules_values s.rules
+any_values (Regular r) = 0 ∷ (regular_values r ++ no_rules)
+any_values (List l) = 1 ∷ list_values l
 
-abbrev pub any_paper : AnyAnswer → Paper
-any_paper a = beside (verdict_paper a.answer) (any_values a.set)
+-- a refusal of either kind has the values of the Regular set of no rules
+abbrev pub no_any : L.List ℕ
+no_any = 0 ∷ (no_set ++ no_rules)
+
+abbrev pub any_paper : Result AnyOverloadSet Refusal → Paper
+any_paper a = answer_paper any_values no_any a

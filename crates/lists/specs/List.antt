@@ -1,6 +1,6 @@
 -- 'List': rules in order of preference and a mask of those that are left, and what each operation answers of them.
 use mathlib.Core.List as L
-use Rattle.std.specs.Prelude.{[], ◌∷◌, map, ℕ, ◌-◌, ◌^◌, leb, ltb, length, take, replicate}
+use Rattle.std.specs.Prelude.{[], ◌∷◌, map, ℕ, ◌-◌, ◌^◌, leb, ltb, length, take}
 use Rattle.scalars.specs.Mask.{choose, both, every, select, sift, padded}
 use Rattle.types.specs.Domain.{known?}
 use Rattle.rules.specs.Signature.{Signature, type_at}
@@ -11,15 +11,12 @@ use Rattle.rules.specs.Listing.{accepted_listing, no_listing, accepted_types, no
 use Rattle.scalars.specs.Paper.{unused, Paper, accepted, refusal}
 use Rattle.rules.specs.RulePaper.{rule_values}
 use Rattle.lists.specs.ChosenPaper.{list_values, no_choice}
+pub use Rattle.lists.specs.ChosenPaper.{most_rules, no_list_values}
 use Rattle.lists.specs.declared.list.List.{List}
 use Rattle.rules.specs.declared.rule.Rule.{Rule}
 use Rattle.rules.specs.declared.rule.Part.{Part}
 use Rattle.rules.specs.declared.rule.Keep.{Keep}
 use Rattle.rules.specs.declared.rule.Keep.TheVariants.{Argument}
-
--- a List takes 63 rules
-abbrev pub most_rules : ℕ
-most_rules = 63
 
 -- its rules, what they say, and the members in order of preference
 abbrev pub held : List → L.List Rule
@@ -34,10 +31,6 @@ listing l = select (signatures l) l.members
 -- the same, each with its index
 unfoldable pub entries : List → L.List Entry
 entries l = select (number 0 (signatures l)) l.members
-
--- the List of no rules
-unfoldable pub no_list_values : L.List ℕ
-no_list_values = list_values (record { rules = replicate most_rules blank_rule; len = 0; members = 0 })
 
 unfoldable pub accepted_list : List → Paper
 accepted_list l = accepted (list_values l)

@@ -6,6 +6,5 @@ pub mod Likeness
 pub mod TopLast
 pub mod Stacks
 pub mod Matching
-pub mod MarksAbove
 pub mod RuleRecords
 pub mod Outcomes

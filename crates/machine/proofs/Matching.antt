@@ -10,15 +10,15 @@ use lib.Seq.{get_or-take, get_or-drop}
 use Rattle.types.specs.declared.operand.Operand.{Operand}
 use Rattle.rules.specs.Rule.{most_arguments, arguments_of}
 use Rattle.rules.specs.declared.rule.Rule.{Rule}
-use Rattle.machine.specs.declared.machine.Stack.{Stack}
+use Rattle.machine.specs.declared.stack.Stack.{Stack}
 use Rattle.machine.specs.Machine.{no_operand}
-use Rattle.machine.specs.private.MachineStack.{operands_on, InBounds, alike_from}
+use Rattle.machine.specs.private.MachineStack.{operands_on, alike_from}
 use Rattle.machine.proofs.Stacks.{arity, counted}
 use Rattle.machine.proofs.Likeness.{same_end, same_differ, same_next}
 
-module _ (k : Stack) (q : Rule) (fits : InBounds k) (short : q.count ≤ most_arguments) (enough : q.count ≤ k.top) (i : ℕ) where
+module _ (k : Stack) (q : Rule) (short : q.count ≤ most_arguments) (enough : q.count ≤ k.top) (i : ℕ) where
   many : length (drop (k.top - q.count) (operands_on k)) ≡ q.count
-  many = simp (length-drop, counted k fits) (omega arith)
+  many = simp (length-drop, counted k) (omega arith)
 
   pub alike_end : q.count ≤ i → alike_from i k q ≡ true
   alike_end h =

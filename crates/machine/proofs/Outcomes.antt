@@ -1,23 +1,22 @@
 -- How a run goes out: the machine whose stack has its top last, stopped at a line or come to the end of the bytes, tells how the strict
 -- machine goes out; and a line that was done leaves it the same run from the next line on.
 -- Assumes nothing.
-use mathlib.Core.Path.{◌≡◌, refl, sym, ap, ◌∙◌}
-use mathlib.Core.Bool.{true, false, true≢false}
+use mathlib.Core.Path.{◌≡◌, sym, ap, ◌∙◌}
 use mathlib.Core.List.{List, [], reverse, reverse-reverse}
 use mathlib.Core.Option.{Option, none, some}
 use Prim.Native.Nat.{ℕ, suc, ◌+◌, ◌-◌, ◌≤◌, ◌<◌}
 use native.Mathlib.Numerals.{add-one}
 use native.Mathlib.Omega.{arith}
-use lib.ListN.{length, get_or, drop}
+use lib.ListN.{length, get_or, take, drop, length-drop}
+use Rattle.std.proofs.lemmas.List.{take_all}
 use Rattle.types.specs.declared.operand.Operand.{Operand}
 use Rattle.rules.specs.Signature.{Signature}
-use Rattle.machine.specs.declared.machine.Run.TheVariants.{Stopped}
-use Rattle.machine.specs.declared.machine.Stepped.{Stepped}
+use Rattle.scalars.specs.Paper.{refusal}
 use Rattle.machine.specs.Line.{Line, line_of, lines_of}
 use Rattle.machine.specs.Machine.{Outcome, ended, stopped, next, step_if, run_bytes}
 use Rattle.machine.specs.private.TopLast.{step_last}
-use Rattle.machine.specs.Run.{run_paper, ran_of}
-use Rattle.machine.specs.private.MachineStack.{ran_last, operands_on, InBounds, Did}
+use Rattle.machine.specs.Run.{stop_number, no_run, ran_of}
+use Rattle.machine.specs.private.MachineStack.{ran_last}
 use Rattle.machine.proofs.TopLast.{turned, run_last, top_last}
 use Rattle.machine.proofs.Walk.{lines_end, lines-partial, lines_next}
 
@@ -30,52 +29,44 @@ ended_ran (ended s') s e =
     ap (λ (l : List Operand). ran_of (ended l)) (ap reverse p ∙ reverse-reverse s')
 ended_ran (stopped n) s e = clash e
 
-stopped_ran : (o : Outcome) (n : ℕ) → stopped n ≡ turned o → run_paper (Stopped n) ≡ ran_of o
+stopped_ran : (o : Outcome) (n : ℕ) → stopped n ≡ turned o → refusal stop_number n no_run ≡ ran_of o
 stopped_ran (ended s) n e = clash (sym e)
 stopped_ran (stopped m) n e = cc
 
--- what was done is what the definition does
-undone : (o : Option (List Operand)) (r : Stepped) → Did o r → r.done ≡ false → o ≡ none
-undone none r d e = refl
-undone (some s) r d e = absurd (true≢false (sym d.done-is ∙ e))
+-- what the first line of bytes does to a stack
+abbrev pub first_line : (ℕ → List Signature) → List ℕ → List Operand → Option (List Operand)
+first_line listing_of bs s = step_if (step_last listing_of) (line_of (get_or bs 0 0) (get_or bs 1 0) (get_or bs 2 0) (get_or bs 3 0)) s
 
-record Went (o : Option (List Operand)) (r : Stepped) : Type 0 where
-  fits : InBounds r.stack
-  there : o ≡ some (operands_on r.stack)
+-- the bytes behind it
+abbrev pub behind_line : List ℕ → List ℕ
+behind_line bs = take (length bs - 4) (drop 4 bs)
 
-went : (o : Option (List Operand)) (r : Stepped) → Did o r → r.done ≡ true → Went o r
-went none r d e = absurd (true≢false (sym e ∙ d))
-went (some s) r d e = record { fits = d.holds.fits; there = ap some (sym d.holds.operands_are) }
+behind-is : (bs : List ℕ) → behind_line bs ≡ drop 4 bs
+behind-is bs = take_all (length bs - 4) (drop 4 bs) (omega (arith, length-drop 4 bs))
 
--- what the line at an offset does to a stack
-abbrev pub line_at : (ℕ → List Signature) → List ℕ → ℕ → List Operand → Option (List Operand)
-line_at listing_of bs at s =
-    step_if (step_last listing_of) (line_of (get_or bs at 0) (get_or bs (at + 1) 0) (get_or bs (at + 2) 0) (get_or bs (at + 3) 0)) s
+pub lines-counted : (bs : List ℕ) (n most : ℕ) → 4 ≤ length bs → n + length bs ≤ most → n + 1 + length (behind_line bs) ≤ most
+lines-counted bs n most h few = omega (arith, ap length (behind-is bs), length-drop 4 bs)
 
-module _ (listing_of : ℕ → List Signature) (bs : List ℕ) (at n : ℕ) (s : List Operand)
-    (inv : run_last listing_of (lines_of (drop at bs)) n s ≡ run_last listing_of (lines_of bs) 0 []) where
-  -- the run from these lines on goes out as the whole run does
-  from : {os : List (Option Line)} → lines_of (drop at bs) ≡ os → run_last listing_of os n s ≡ turned (run_bytes listing_of bs)
-  from e = ap (λ (os : List (Option Line)). run_last listing_of os n s) (sym e) ∙ inv ∙ top_last listing_of bs
+module _ (listing_of : ℕ → List Signature) (sheet bs : List ℕ) (n : ℕ) (s : List Operand)
+    (inv : run_last listing_of (lines_of bs) n s ≡ run_last listing_of (lines_of sheet) 0 []) where
+  -- the run over these bytes goes out as the whole run does
+  from : {os : List (Option Line)} → lines_of bs ≡ os → run_last listing_of os n s ≡ turned (run_bytes listing_of sheet)
+  from e = ap (λ (os : List (Option Line)). run_last listing_of os n s) (sym e) ∙ inv ∙ top_last listing_of sheet
 
-  pub run-ended : length bs ≤ at → ran_last s ≡ ran_of (run_bytes listing_of bs)
-  run-ended h = ended_ran (run_bytes listing_of bs) s (from (lines_end bs at h))
+  pub run-ended : length bs ≡ 0 → ran_last s ≡ ran_of (run_bytes listing_of sheet)
+  run-ended h = ended_ran (run_bytes listing_of sheet) s (from (lines_end bs h))
 
-  pub run-partial : at < length bs → length bs - at < 4 → run_paper (Stopped n) ≡ ran_of (run_bytes listing_of bs)
-  run-partial h l = stopped_ran (run_bytes listing_of bs) n (from (lines-partial bs at h (omega arith)))
+  pub run-partial : 0 < length bs → length bs < 4 → refusal stop_number n no_run ≡ ran_of (run_bytes listing_of sheet)
+  run-partial h l = stopped_ran (run_bytes listing_of sheet) n (from (lines-partial bs h l))
 
-  module _ (whole : at + 4 ≤ length bs) (r : Stepped) (did : Did (line_at listing_of bs at s) r) where
-    one_line : {o : Option (List Operand)} → line_at listing_of bs at s ≡ o
-        → next n (λ (s' : List Operand). run_last listing_of (lines_of (drop (at + 4) bs)) (suc n) s') o ≡ turned (run_bytes listing_of bs)
-    one_line e =
-        ap (next n (λ (s' : List Operand). run_last listing_of (lines_of (drop (at + 4) bs)) (suc n) s')) (sym e) ∙ from (lines_next bs at whole)
+  module _ (whole : 4 ≤ length bs) where
+    one_line : {o : Option (List Operand)} → o ≡ first_line listing_of bs s
+        → next n (λ (s' : List Operand). run_last listing_of (lines_of (drop 4 bs)) (suc n) s') o ≡ turned (run_bytes listing_of sheet)
+    one_line e = ap (next n (λ (s' : List Operand). run_last listing_of (lines_of (drop 4 bs)) (suc n) s')) e ∙ from (lines_next bs whole)
 
-    pub run-stopped : r.done ≡ false → run_paper (Stopped n) ≡ ran_of (run_bytes listing_of bs)
-    run-stopped e = stopped_ran (run_bytes listing_of bs) n (one_line (undone (line_at listing_of bs at s) r did e))
+    pub run-stopped : none ≡ first_line listing_of bs s → refusal stop_number n no_run ≡ ran_of (run_bytes listing_of sheet)
+    run-stopped e = stopped_ran (run_bytes listing_of sheet) n (one_line e)
 
-    pub run-next : r.done ≡ true
-        → InBounds r.stack
-        × (run_last listing_of (lines_of (drop (at + 4) bs)) (n + 1) (operands_on r.stack) ≡ run_last listing_of (lines_of bs) 0 [])
-    run-next e =
-        let w = went (line_at listing_of bs at s) r did e in
-        (w.fits, rw add-one (one_line w.there ∙ sym (top_last listing_of bs)))
+    pub run-next : (s' : List Operand) → some s' ≡ first_line listing_of bs s
+        → run_last listing_of (lines_of (behind_line bs)) (n + 1) s' ≡ run_last listing_of (lines_of sheet) 0 []
+    run-next s' e = rw (behind-is bs, add-one) (one_line e ∙ sym (top_last listing_of sheet))

@@ -20,11 +20,7 @@ use Rattle.scalars.specs.Paper.{Paper, accepted, refusal, values}
 use Rattle.rules.specs.RulePaper.{rule_values, no_rule}
 use Rattle.rules.proofs.RulePapers.{rule_named}
 use Rattle.rules.proofs.Records.{record_says}
-use Rattle.machine.specs.declared.machine.Stack.{Stack}
-use Rattle.machine.specs.declared.machine.Stepped.{Stepped}
 use Rattle.machine.specs.private.TopLast.{apply_last}
-use Rattle.machine.specs.private.MachineStack.{Did}
-use Rattle.machine.proofs.Stacks.{stop}
 use Rattle.functions.proofs.Database.{four-arguments, unknown-none}
 
 clash : {A : Type 0} {n p : ℕ} {vs ws : List ℕ} → refusal n p vs ≡ accepted ws → A
@@ -73,10 +69,10 @@ module _ (f i : ℕ) where
       go false h q = ap (λ (rs : List Signature). get_elem? rs i) (unknown-none f (ltb-false f function_count h))
 
 -- a call by the rule that stands there, and a call where none does
-pub called : (n : ℕ) (s : List Operand) (o : Option Signature) (q : Rule) (r : Stepped) → Stands o q
-    → Did (apply_last n s (some (signature_of q))) r → Did (apply_last n s o) r
-called n s o q r h d = rw h.rule-is d
+pub called : (n : ℕ) (s : List Operand) (o : Option Signature) (q : Rule) → Stands o q
+    → apply_last n s (some (signature_of q)) ≡ apply_last n s o
+called n s o q h = ap (apply_last n s) (sym h.rule-is)
 
-pub uncalled : (n : ℕ) (s : List Operand) (o : Option Signature) (k : Stack) → o ≡ none → Did (apply_last n s o) (stop k)
+pub uncalled : (n : ℕ) (s : List Operand) (o : Option Signature) → o ≡ none → none ≡ apply_last n s o
 unfolding apply_last
-uncalled n s o k e = rw e
+uncalled n s o e = rw e

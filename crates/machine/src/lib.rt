@@ -3,6 +3,7 @@
 
 mod line;
 mod machine;
+mod stack;
 
 pub use line::{CALL_LINE, CONVERSION_LINE, LEAF_LINE, SPARE};
-pub use machine::{Run, run_worksheet};
+pub use machine::{Ended, Stopped, run_worksheet};

@@ -1,8 +1,6 @@
 // The numbers that spell a worksheet's lines, for those who write them and for the machine that runs them. An expression's tags are
-// numbered apart, in the crate `expressions`.
+// numbered apart, in the crate `expressions`. A line has four bytes, the first of them its kind.
 
-// A line has so many bytes, the first of them its kind.
-pub(crate) const LINE: usize = 4;
 // The kind of a leaf's line.
 pub const LEAF_LINE: u8 = 0;
 // The kind of a call's line.

@@ -5,24 +5,25 @@ use Prim.Native.Nat.{ℕ}
 use native.Mathlib.Omega.{arith}
 use lib.Dec.{eqb}
 use lib.ListN.{get_or}
+use Rattle.std.specs.Prelude.{Option, Some, None}
 use Rattle.scalars.specs.Mask.{choose}
 use Rattle.scalars.specs.Paper.{accepted, values}
 use Rattle.scalars.proofs.Papers.{one-to-one}
 use Rattle.names.specs.Names.{Named, a_type, a_function, unknown, named_paper}
 use Rattle.names.specs.WordPaper.{word_paper}
 use Rattle.names.specs.declared.index.Word.{Word}
-use Rattle.names.specs.declared.index.Word.TheVariants.{TypeName, FunctionName, Unknown}
+use Rattle.names.specs.declared.index.Word.TheVariants.{TypeName, FunctionName}
 
-abbrev word_with : List ℕ → Word
-word_with [] = Unknown
-word_with (k ∷ vs) = choose (eqb k 0) (TypeName (get_or vs 0 0)) (FunctionName (get_or vs 0 0))
+abbrev word_with : List ℕ → Option Word
+word_with [] = None
+word_with (k ∷ vs) = Some (choose (eqb k 0) (TypeName (get_or vs 0 0)) (FunctionName (get_or vs 0 0)))
 
-word_back : (a : Word) → word_with (values (word_paper a)) ≡ a
-word_back (TypeName t) = refl
-word_back (FunctionName f) = refl
-word_back Unknown = refl
+word_back : (a : Option Word) → word_with (values (word_paper a)) ≡ a
+word_back (Some (TypeName t)) = refl
+word_back (Some (FunctionName f)) = refl
+word_back None = refl
 
-pub word-one : (a b : Word) → word_paper a ≡ word_paper b → a ≡ b
+pub word-one : (a b : Option Word) → word_paper a ≡ word_paper b → a ≡ b
 word-one = one-to-one word_paper (λ p. word_with (values p)) word_back
 
 -- from the values to what is named

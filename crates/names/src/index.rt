@@ -1,23 +1,22 @@
 // What a run of bytes names: a type, a function, or nothing.
 //
 // A run is compared with one name only: a number made of its bytes leads through an index to the one word that it can be. How the
-// index was found does not matter, since each of the words is proved to stand in its own slot.
+// index was found does not matter, since each of the words is proved to stand in its own slot. It is a table of bytes: nothing is on a heap.
 
 ghost use Rattle.std.specs.Prelude.{◌≡◌, ◌<◌, get_or};
-ghost use Rattle.names.specs.Names.{same, numbered, named_paper};
+ghost use Rattle.names.specs.Names.{numbered, named_paper};
 ghost use Rattle.names.specs.Index.{key_of, slot_in, word_in, built_in_index};
 ghost use Rattle.names.specs.WordPaper.{word_paper};
 
 use crate::names::{TYPE_COUNT, WORD_COUNT, spelling};
 
-// What a run names.
+// What a run names, if it names something.
 #[derive(Clone, Copy)]
 pub enum Word {
     // A type, by its code.
     TypeName(u8),
     // A function, by its number.
     FunctionName(u8),
-    Unknown,
 }
 
 // The shifts of the slots.
@@ -45,28 +44,29 @@ pub fn built_in_index() -> [u8; ENTRIES]
     INDEX
 }
 
-// The word that a run is, in lent names with a lent index: the one in the run's slot, if the run is its name.
-pub fn word_of(run: &[u8], names: &[u8], index: &[u8]) -> Word
+// The word that a run is, in lent names with a lent index: the one in the run's slot, if the run is its name. Names and index are lent
+// side by side: what is promised of them, here and in the crates that read and write texts, names each by itself.
+pub fn word_of(run: &[u8], names: &[u8], index: &[u8]) -> Option<Word>
     ensures { word_paper result ≡ named_paper (word_in names.now index.now run.now) }
 {
     let word = slot(run, index);
-    if is_same(run, spelling(names, index, word)) {
+    if run == spelling(names, index, word) {
         return word_at(word);
     }
-    Word::Unknown
+    None
 }
 
 // The word with this number.
-fn word_at(word: usize) -> Word
+fn word_at(word: usize) -> Option<Word>
     ensures { word_paper result ≡ named_paper (numbered word) }
 {
     if word < TYPE_COUNT {
-        return Word::TypeName(word as u8);
+        return Some(Word::TypeName(word as u8));
     }
     if word < WORD_COUNT {
-        return Word::FunctionName((word - TYPE_COUNT) as u8);
+        return Some(Word::FunctionName((word - TYPE_COUNT) as u8));
     }
-    Word::Unknown
+    None
 }
 
 // The number of the word in the run's slot.
@@ -83,10 +83,8 @@ fn key(run: &[u8]) -> usize
     ensures { result ≡ key_of run.now }
 {
     let mut k: usize = 0;
-    let mut i: usize = 0;
-    while i < run.len() {
-        k = (k * 17 + run[i] as usize) % KEYS;
-        i += 1;
+    for b in run {
+        k = (k * 17 + usize::from(*b)) % KEYS;
     }
     k
 }
@@ -95,25 +93,5 @@ fn key(run: &[u8]) -> usize
 pub(crate) fn entry(index: &[u8], i: usize) -> usize
     ensures { (result ≡ get_or index.now i 0) × (result < 256) }
 {
-    if i < index.len() {
-        return index[i] as usize;
-    }
-    0
-}
-
-// Whether two byte strings are the same.
-pub(crate) fn is_same(a: &[u8], b: &[u8]) -> bool
-    ensures { result ≡ same a.now b.now }
-{
-    if a.len() != b.len() {
-        return false;
-    }
-    let mut i: usize = 0;
-    while i < a.len() {
-        if a[i] != b[i] {
-            return false;
-        }
-        i += 1;
-    }
-    true
+    index.get(i).map_or(0, |b| usize::from(*b))
 }

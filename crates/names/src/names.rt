@@ -34,15 +34,12 @@ pub fn spelling<'a>(names: &'a [u8], index: &[u8], word: usize) -> &'a [u8]
     ensures { result.now ≡ spelling_in names.now index.now word }
 {
     if WORD_COUNT <= word {
-        return &names[0..0];
+        return &[];
     }
     let start = start_of(index, word);
     let behind = start_of(index, word + 1);
-    if behind <= start {
-        return &names[0..0];
-    }
-    if names.len() < behind {
-        return &names[0..0];
+    if behind <= start || names.len() < behind {
+        return &[];
     }
     &names[start..behind - 1]
 }
@@ -54,6 +51,7 @@ fn start_of(index: &[u8], word: usize) -> usize
     if WORD_COUNT < word {
         return 0;
     }
+    // Byte by byte, since an entry behind the index's end is 0.
     let low = STARTS + 2 * word;
     entry(index, low) + 256 * entry(index, low + 1)
 }

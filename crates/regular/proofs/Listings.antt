@@ -4,8 +4,8 @@ use mathlib.Core.Bool.{Bool}
 use mathlib.Core.List.{List, [], ◌∷◌, map}
 use Prim.Native.Nat.{ℕ, ◌+◌, ◌-◌, ◌≤◌, ◌<◌}
 use native.Mathlib.Omega.{arith}
-use lib.ListN.{length, get_or, drop, set, replicate, length-map, length-set, length-replicate, get_or-append, drop_of_length-le}
-use lib.Seq.{sets}
+use lib.ListN.{length, get_or, take, drop, set, replicate, length-map, length-set, length-replicate, get_or-append, drop_of_length-le}
+use lib.Seq.{sets, get_or-take}
 use Rattle.scalars.specs.Mask.{choose, both, every, padded}
 use Rattle.rules.specs.Rule.{blank_rule, rule_of}
 use Rattle.scalars.specs.Paper.{accepted, refusal, refused, unused}
@@ -16,10 +16,10 @@ use Rattle.types.specs.Domain.{constructor_part, scalar_part, other_type}
 use Rattle.regular.specs.Regular.{codes_of, regular_rules, signature_for, all_conclude, rule_for, regular_rule}
 use Rattle.regular.proofs.RegularRules.{concludes}
 use Rattle.regular.specs.private.Tested.{Known, codes_found, concluded_listing}
-use Rattle.regular.specs.declared.regular.Codes.{Codes}
+use Rattle.rules.specs.declared.listing.AllowedArgs.{AllowedArgs}
 use Rattle.regular.specs.declared.regular.Regular.{Regular}
 use Rattle.rules.specs.declared.rule.Rule.{Rule}
-use Rattle.regular.proofs.Regulars.{pairs-most, known_rule}
+use Rattle.regular.proofs.Regulars.{pairs-most, known_rule, accepted-known, empty-masks, empty-digit}
 use Rattle.regular.proofs.Conclusions.{code_below, rule-refused, rule-concluded}
 use Rattle.types.proofs.Codes.{from-here}
 use Rattle.scalars.proofs.Fills.{filled, fill_step, fill_end}
@@ -28,23 +28,30 @@ pub codes-few : (r : Regular) → length (codes_of r) ≤ most_listed
 unfolding codes_of
 codes-few r = pairs-most r.constructors.0 r.scalars.0
 
+pub found-few : (r : Regular) → (codes_found (codes_of r)).count ≤ most_listed
+unfolding codes_found
+found-few r = codes-few r
+
 -- an array that holds the argument types
-module _ (r : Regular) {found : Codes} (e : found ≡ codes_found (codes_of r)) where
+module _ (r : Regular) {found : AllowedArgs} (e : found ≡ codes_found (codes_of r)) where
   pub found-count : found.count ≡ length (codes_of r)
   unfolding codes_found
-  found-count = ap (λ (f : Codes). f.count) e
+  found-count = ap (λ (f : AllowedArgs). f.count) e
 
   pub found-codes : found.codes ≡ padded most_listed unused (codes_of r)
   unfolding codes_found
-  found-codes = ap (λ (f : Codes). f.codes) e
+  found-codes = ap (λ (f : AllowedArgs). f.codes) e
 
-  found_at : (k : ℕ) → k < length (codes_of r) → get_or found.codes k 0 ≡ get_or (codes_of r) k 0
-  found_at k h = ap (λ (a : List ℕ). get_or a k 0) found-codes ∙ get_or-append (codes_of r) (replicate (most_listed - length (codes_of r)) unused) 0 k h
+  found_at : (n k : ℕ) → n ≡ found.count → k < length (codes_of r) → get_or (take n found.codes) k 0 ≡ get_or (codes_of r) k 0
+  found_at n k i h =
+      get_or-take n found.codes k 0 (omega (arith, found-count)) ∙ ap (λ (a : List ℕ). get_or a k 0) found-codes
+      ∙ get_or-append (codes_of r) (replicate (most_listed - length (codes_of r)) unused) 0 k h
 
-  -- the rule of a type that the array holds
-  pub found-rule : Known r → (k : ℕ) → k < length (codes_of r) → regular_rule (constructor_part (get_or found.codes k 0)) (scalar_part (get_or found.codes k 0)) r ≡ rule_for r (get_or (codes_of r) k 0)
-  found-rule known k h =
-      ap (λ (t : ℕ). regular_rule (constructor_part t) (scalar_part t) r) (found_at k h)
+  -- the rule of a type that the front of the array holds
+  pub found-rule : Known r → (n k : ℕ) → n ≡ found.count → k < length (codes_of r)
+      → regular_rule (constructor_part (get_or (take n found.codes) k 0)) (scalar_part (get_or (take n found.codes) k 0)) r ≡ rule_for r (get_or (codes_of r) k 0)
+  found-rule known n k i h =
+      ap (λ (t : ℕ). regular_rule (constructor_part t) (scalar_part t) r) (found_at n k i h)
       ∙ by_parts (get_or (codes_of r) k 0) (code_below r k h)
     where
       by_parts : (t : ℕ) → t < other_type → regular_rule (constructor_part t) (scalar_part t) r ≡ rule_for r t
@@ -111,3 +118,6 @@ listed-end r rules k n l h e =
     ap₂ (λ (m : ℕ) (b : List Rule). accepted (m ∷ rules_values b)) (e ∙ sym (rules-count r))
     (fill_end rules k (ap (map (λ t. rule_of (signature_for r t))) none) l.whole)
     ∙ ap (λ (b : Bool). choose b (accepted_listing (regular_rules r)) (refusal 13 0 no_listing)) (sym (ap (every (concludes r)) none) ∙ l.concluded)
+
+-- what the check may use of a set
+pub ruleset of_sets = (empty-masks, empty-digit, accepted-known, found-count, found-codes, found-few)

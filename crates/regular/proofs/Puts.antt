@@ -12,7 +12,7 @@ use Rattle.types.specs.TypeCode.{type_code}
 use Rattle.rules.specs.Listing.{most_listed}
 use Rattle.regular.specs.Regular.{pairs}
 use Rattle.regular.specs.private.Tested.{put, codes_found}
-use Rattle.regular.specs.declared.regular.Codes.{Codes}
+use Rattle.rules.specs.declared.listing.AllowedArgs.{AllowedArgs}
 use Rattle.scalars.proofs.Fills.{filled}
 
 sets_append : {A : Type 0} (l : List A) (i : ℕ) (xs ys : List A) → sets (sets l i xs) (i + length xs) ys ≡ sets l i (xs ++ ys)
@@ -21,13 +21,13 @@ sets_append l i (x ∷ xs) ys =
     ap (λ (n : ℕ). sets (sets l i (x ∷ xs)) n ys) (add-suc i (length xs) ∙ sym (suc-add i (length xs)))
     ∙ sets_append _ (suc i) xs ys
 
-put-again : (found : Codes) (xs ys : List ℕ) → put (put found xs) ys ≡ put found (xs ++ ys)
+put-again : (found : AllowedArgs) (xs ys : List ℕ) → put (put found xs) ys ≡ put found (xs ++ ys)
 unfolding put
 put-again found xs ys =
     ap₂ (λ (a : List ℕ) (n : ℕ). record { codes = a; count = n }) (sets_append found.codes found.count xs ys)
     (add_assoc found.count (length xs) (length ys) ∙ ap (λ (n : ℕ). found.count + n) (sym (length-append xs ys)))
 
-put-none : (found : Codes) → put found [] ≡ found
+put-none : (found : AllowedArgs) → put found [] ≡ found
 unfolding put
 put-none found = ap (λ (n : ℕ). record { codes = found.codes; count = n }) (add-zero found.count)
 
@@ -35,16 +35,16 @@ put_first : (ts : List ℕ) → length ts ≤ most_listed → put (record { code
 unfolding put codes_found
 put_first ts h = ap₂ (λ (a : List ℕ) (n : ℕ). record { codes = a; count = n }) (filled most_listed unused ts h) (zero-add (length ts))
 
-put-length : (found : Codes) (ts : List ℕ) → length (put found ts).codes ≡ length found.codes
+put-length : (found : AllowedArgs) (ts : List ℕ) → length (put found ts).codes ≡ length found.codes
 unfolding put
 put-length found ts = length-sets found.codes found.count ts
 
-put_count : (found : Codes) (ts : List ℕ) → (put found ts).count ≡ found.count + length ts
+put_count : (found : AllowedArgs) (ts : List ℕ) → (put found ts).count ≡ found.count + length ts
 unfolding put
 put_count found ts = refl
 
 -- what such a loop has found, and the constructors that are left: together they make all the types
-pub record Rows (ss all : List ℕ) (found : Codes) (left : List ℕ) : Type 0 where
+pub record Rows (ss all : List ℕ) (found : AllowedArgs) (left : List ℕ) : Type 0 where
   pub room : found.count + length (pairs left ss) ≤ most_listed
   pub long : length found.codes ≡ most_listed
   pub whole : put found (pairs left ss) ≡ codes_found (pairs all ss)
@@ -56,7 +56,7 @@ rows_start ss all h e = record {
   whole = ap (λ (b : List ℕ). put (record { codes = b; count = 0 }) (pairs all ss)) e ∙ put_first (pairs all ss) h;
 }
 
-module _ {ss all left rest : List ℕ} {found : Codes} {k : ℕ} (rows : Rows ss all found left) (e : left ≡ k ∷ rest) where
+module _ {ss all left rest : List ℕ} {found : AllowedArgs} {k : ℕ} (rows : Rows ss all found left) (e : left ≡ k ∷ rest) where
   row-length : length (pairs left ss) ≡ length ss + length (pairs rest ss)
   row-length =
       ap (λ (ks : List ℕ). length (pairs ks ss)) e ∙ length-append (map (type_code k) ss) (pairs rest ss)
@@ -65,12 +65,12 @@ module _ {ss all left rest : List ℕ} {found : Codes} {k : ℕ} (rows : Rows ss
   pub rows-room : found.count + length ss ≤ most_listed
   rows-room = omega (arith, rows.room, row-length)
 
-  pub rows_next : {next : Codes} → next ≡ put found (map (type_code k) ss) → Rows ss all next rest
-  rows_next f = subst⁻¹ (λ (c : Codes). Rows ss all c rest) f record {
+  pub rows_next : {next : AllowedArgs} → next ≡ put found (map (type_code k) ss) → Rows ss all next rest
+  rows_next f = subst⁻¹ (λ (c : AllowedArgs). Rows ss all c rest) f record {
     room = omega (arith, rows.room, row-length, put_count found (map (type_code k) ss), length-map ss (type_code k));
     long = put-length found (map (type_code k) ss) ∙ rows.long;
     whole = put-again found (map (type_code k) ss) (pairs rest ss) ∙ ap (λ (ks : List ℕ). put found (pairs ks ss)) (sym e) ∙ rows.whole;
   }
 
-pub rows_end : {ss all left : List ℕ} {found : Codes} → Rows ss all found left → left ≡ [] → found ≡ codes_found (pairs all ss)
+pub rows_end : {ss all left : List ℕ} {found : AllowedArgs} → Rows ss all found left → left ≡ [] → found ≡ codes_found (pairs all ss)
 rows_end {ss} {all} {left} {found} rows e = sym (ap (λ (ks : List ℕ). put found (pairs ks ss)) e ∙ put-none found) ∙ rows.whole

@@ -10,17 +10,19 @@ use lib.Dec.{eqb, leb, ltb, lit≤}
 use lib.ListN.{length, get_or, length-map, length-append, length-replicate}
 use borrow.Author.Tests.{ltb-true, ltb-false, leb-true, lt-ltb, le-leb, eqb-true, eqb-false}
 use Rattle.rules.specs.Listing.{most_listed}
-use Rattle.scalars.specs.Mask.{choose, both, either, bits, mask_of}
+use Rattle.std.specs.Prelude.{Result, Ok, Err}
+use Rattle.scalars.specs.Mask.{choose, both, either, digit, bits, mask_of}
 use Rattle.scalars.specs.Domain.{scalar_count}
 use Rattle.scalars.specs.Scalar.{most_general, first_scalar}
 use Rattle.types.specs.Domain.{constructor_count}
 use Rattle.types.specs.TypeCode.{type_code}
 use Rattle.types.specs.TypePaper.{size_values}
 use Rattle.types.specs.Constructor.{sizes, constructor_size, size_of_one, set_size}
-use Rattle.rules.specs.Verdict.{longest, empty_of, count_of}
-use Rattle.regular.specs.Regular.{pairs, codes_of, regular_rules, signature_for, regular_verdict, regular_rule, empty_set?, preferred_among, rule_for}
+use Rattle.rules.specs.Signature.{Signature}
+use Rattle.rules.specs.Verdict.{on_verdict, longest, empty_of, count_of}
+use Rattle.regular.specs.Regular.{pairs, codes_of, regular_rules, signature_for, regular_verdict, regular_rule, regular_empty, empty_set?, preferred_among, rule_for}
 use Rattle.regular.specs.private.Tested.{Known, sized_rule}
-use Rattle.scalars.specs.Paper.{Paper, accepted, refusal, refused, when_accepted, unused}
+use Rattle.scalars.specs.Paper.{Paper, accepted, refusal, refused, when_accepted, unused, test_paper}
 use Rattle.scalars.specs.declared.refusal.Refusal.{Refusal}
 use Rattle.types.specs.declared.constructor_set.ConstructorSize.{ConstructorSize}
 use Rattle.rules.specs.RulePaper.{no_rule}
@@ -141,6 +143,49 @@ empty-no r known e = ap (λ (ts : List ℕ). empty_of (map (signature_for r) ts)
 pub count_none : (r : Regular) → empty_set? r ≡ true → count_of (regular_rules r) ≡ refusal 1 0 (unused ∷ [])
 unfolding regular_rules
 count_none r e = ap (λ (ts : List ℕ). count_of (map (signature_for r) ts)) (codes-none r e)
+
+-- the emptiness of a set that was tested
+pub empty-digit : (r : Regular) → accepted [] ≡ regular_verdict r → empty_of (regular_rules r) ≡ accepted (digit (empty_set? r) ∷ [])
+empty-digit r e = go (empty_set? r) refl
+  where
+    go : (c : Bool) → empty_set? r ≡ c → empty_of (regular_rules r) ≡ accepted (digit c ∷ [])
+    go true g = empty_yes r g
+    go false g = empty-no r (accepted-known r (sym e)) g
+
+pub empty-masks : (r : Regular) → empty_set? r ≡ either (eqb r.constructors.0 0) (eqb r.scalars.0 0)
+unfolding empty_set?
+empty-masks r = refl
+
+-- what an answer says that is the emptiness of a set: its refusal is the set's, and otherwise the set was tested
+abbrev pub Told : Regular → Result Bool Refusal → Type 0
+Told r (Ok b) = Known r × (empty_set? r ≡ b)
+Told r (Err why) = (x : Paper) (ws : List ℕ) → refused why ws ≡ on_verdict (regular_verdict r) x ws
+
+pub empty-told : (r : Regular) (x : Result Bool Refusal) → test_paper x ≡ regular_empty r → Told r x
+unfolding regular_empty
+empty-told r x e = go (regular_verdict r) refl x e
+  where
+    one : (b : Bool) → digit b ≡ 1 → true ≡ b
+    one true f = refl
+    one false f = absurd (omega arith)
+
+    none : (b : Bool) → digit b ≡ 0 → false ≡ b
+    none true f = absurd (omega arith)
+    none false f = refl
+
+    here : Known r → (b c : Bool) → empty_set? r ≡ c → accepted (digit b ∷ []) ≡ empty_of (regular_rules r) → empty_set? r ≡ b
+    here k b true f g = let i = g ∙ empty_yes r f in f ∙ one b cc
+    here k b false f g = let i = g ∙ empty-no r k f in f ∙ none b cc
+
+    never : {C : Type 0} {n p : ℕ} {vs : List ℕ} (rs : List Signature) → refusal n p vs ≡ empty_of rs → C
+    never [] g = let z : ◌≡◌ {A = ℕ} 0 1 = cc in absurd (omega arith)
+    never (s ∷ rs) g = let z : ◌≡◌ {A = ℕ} 0 1 = cc in absurd (omega arith)
+
+    go : (p : Paper) → regular_verdict r ≡ p → (x : Result Bool Refusal) → test_paper x ≡ when_accepted p (λ vs. empty_of (regular_rules r)) (unused ∷ []) → Told r x
+    go (accepted vs) f (Ok b) g = let k = accepted_verdict r f in (k, here k b (empty_set? r) refl g)
+    go (accepted vs) f (Err why) g = never (regular_rules r) g
+    go (refusal n p vs) f (Ok b) g = let z : ◌≡◌ {A = ℕ} 0 1 = cc in absurd (omega arith)
+    go (refusal n p vs) f (Err why) g = λ x ws. rw f (cc)
 
 -- all rules are as long as the arity
 pub longest-arity : (r : Regular) (t : ℕ) (ts : List ℕ) → longest (map (signature_for r) (t ∷ ts)) ≡ r.arity

@@ -4,14 +4,14 @@ use mathlib.Core.Path.{◌≡◌, refl, sym, ap, ◌∙◌}
 use mathlib.Core.List.{List}
 use Prim.Native.Nat.{ℕ}
 use lib.ListN.{get_or}
+use Rattle.std.specs.Prelude.{Result}
 use Rattle.scalars.specs.Paper.{Paper, values}
+use Rattle.scalars.specs.declared.refusal.Refusal.{Refusal}
 use Rattle.regular.specs.SetPaper.{set_paper, regular_paper, regular_values, no_set, conclusion_number, conclusion_of}
-use Rattle.scalars.proofs.Papers.{read, reads-refused, one-to-one}
+use Rattle.scalars.proofs.Papers.{answer-one}
 use Rattle.regular.specs.declared.regular.ConclusionRule.{ConclusionRule}
 use Rattle.regular.specs.declared.regular.ConclusionRule.TheVariants as conclusion
 use Rattle.regular.specs.declared.regular.Regular.{Regular}
-use Rattle.regular.specs.declared.regular.RegularAnswer.{RegularAnswer}
-use Rattle.regular.specs.declared.regular.RegularAnswer.TheVariants as regular
 
 -- the set that these values name
 abbrev pub set_named : List ℕ → Regular
@@ -42,10 +42,5 @@ set_back r =
 pub set-one : (a b : Regular) → set_paper a ≡ set_paper b → a ≡ b
 set-one a b e = sym (set_back a) ∙ ap (λ (p : Paper). set_named (values p)) e ∙ set_back b
 
-regular-back : (a : RegularAnswer) → read (λ vs. regular.Set (set_named vs)) regular.Refused (regular_paper a) ≡ a
-unfolding read
-regular-back (regular.Set r) = ap regular.Set (set_back r)
-regular-back (regular.Refused why) = reads-refused (λ vs. regular.Set (set_named vs)) regular.Refused why no_set
-
-pub regular-one : (a b : RegularAnswer) → regular_paper a ≡ regular_paper b → a ≡ b
-regular-one = one-to-one regular_paper (read (λ vs. regular.Set (set_named vs)) regular.Refused) regular-back
+pub regular-one : (a b : Result Regular Refusal) → regular_paper a ≡ regular_paper b → a ≡ b
+regular-one = answer-one regular_values no_set set_named set_back

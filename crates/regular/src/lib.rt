@@ -4,4 +4,4 @@
 
 mod regular;
 
-pub use regular::{ConclusionRule, Regular, RegularAnswer};
+pub use regular::{ConclusionRule, Regular};

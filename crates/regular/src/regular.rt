@@ -12,21 +12,16 @@ ghost use Rattle.types.specs.TypePaper.{code_paper};
 ghost use Rattle.types.specs.TypeCode.{type_code};
 ghost use Rattle.rules.specs.Rule.{most_arguments};
 ghost use Rattle.rules.specs.RulePaper.{rule_paper, listing_paper, types_paper};
-ghost use Rattle.regular.specs.SetPaper.{set_paper, regular_paper};
+ghost use Rattle.regular.specs.SetPaper.{set_paper, regular_paper, conclusion_number, conclusion_from};
 ghost use Rattle.regular.specs.Regular.{regular_verdict, regular_empty, regular_count, regular_arg, regular_concrete, regular_preferred, regular_rule, regular_listing, regular_allowed, empty_set?, narrowed, concrete_set, reached_scalars, codes_of};
 ghost use Rattle.regular.specs.private.Tested.{codes_found, RowFits, put, Known, concluded_listing, concluded_for, sized_rule};
 
 use rules::{
-    AllowedArgs, LONGEST_LISTING, Listing, MOST_ARGUMENTS, Part, Predeclared, Rule, RuleAnswer,
-    for_frexp_modf, no_codes, no_listing, no_rules, no_types,
+    AllowedArgs, Listing, MOST_ARGUMENTS, Part, Predeclared, Rule, for_frexp_modf, no_codes,
+    no_rules,
 };
-use scalars::{
-    BitStep, CountAnswer, OneBitsIter, Refusal, Scalar, ScalarAnswer, ScalarSet, Test, Verdict,
-};
-use types::{
-    CodeAnswer, Constructor, ConstructorSet, ConstructorSize, LAST_CODE, LeafScalar, SizeAnswer,
-    leaf_scalar,
-};
+use scalars::{OneBitsIter, Refusal, Scalar, ScalarSet};
+use types::{Constructor, ConstructorSet, ConstructorSize, LAST_CODE, leaf_scalar};
 
 #[derive(Clone, Copy)]
 pub struct Regular {
@@ -55,13 +50,6 @@ pub enum ConclusionRule {
     Vec4U,
 }
 
-// The answer where a Regular set is asked for.
-#[derive(Clone, Copy)]
-pub enum RegularAnswer {
-    Set(Regular),
-    Refused(Refusal),
-}
-
 impl Regular {
     // The set of no rules.
     pub const EMPTY: Regular = Regular {
@@ -72,312 +60,219 @@ impl Regular {
     };
 
     // Whether the set is one: refused 7 for an unknown bit, then 3 for more than four arguments.
-    pub fn verdict(self) -> Verdict
+    #[tactic(auto, unfolding(crate::specs::Regular::regular_verdict))]
+    pub fn verdict(self) -> Result<(), Refusal>
         ensures { verdict_paper result ≡ regular_verdict self }
     {
-        if ConstructorSet::ALL.0 < self.constructors.0 {
-            return Verdict::Refused(Refusal::Unknown(0));
-        }
-        if ScalarSet::ALL.0 < self.scalars.0 {
-            return Verdict::Refused(Refusal::Unknown(0));
+        if ConstructorSet::ALL.0 < self.constructors.0 || ScalarSet::ALL.0 < self.scalars.0 {
+            return Err(Refusal::Unknown(0));
         }
         if MOST_ARGUMENTS < self.arity {
-            return Verdict::Refused(Refusal::TooMany);
+            return Err(Refusal::TooMany);
         }
-        Verdict::Accepted
+        Ok(())
     }
 
     // Whether the set has no rule. Refused as the set is.
-    pub fn is_empty(self) -> Test
+    #[tactic(auto, using(crate::proofs::Listings::of_sets), unfolding(crate::specs::Regular::regular_empty))]
+    pub fn is_empty(self) -> Result<bool, Refusal>
         ensures { test_paper result ≡ regular_empty self }
     {
-        if let Verdict::Refused(why) = self.verdict() {
-            return Test::Refused(why);
-        }
-        if self.holds_none() {
-            return Test::Yes;
-        }
-        Test::No
+        self.verdict()?;
+        Ok(self.holds_none())
     }
 
     // Whether a tested set has no rule.
+    #[tactic(auto, using(crate::proofs::Listings::of_sets))]
     pub fn holds_none(self) -> bool
         ensures { result ≡ empty_set? self }
     {
-        if self.constructors.0 == 0 {
-            return true;
-        }
-        self.scalars.0 == 0
+        self.constructors.0 == 0 || self.scalars.0 == 0
     }
 
     // The least number of arguments. Refused as the set is, then 1 where it has no rule.
-    pub fn min_arguments(self) -> CountAnswer
+    pub fn min_arguments(self) -> Result<u8, Refusal>
         ensures { count_paper result ≡ regular_count self }
     {
         self.max_arguments()
     }
 
     // The most arguments. Refused as the set is, then 1 where it has no rule.
-    pub fn max_arguments(self) -> CountAnswer
+    pub fn max_arguments(self) -> Result<u8, Refusal>
         ensures { count_paper result ≡ regular_count self }
     {
-        if let Verdict::Refused(why) = self.verdict() {
-            return CountAnswer::Refused(why);
+        if self.is_empty()? {
+            return Err(Refusal::EmptySet(0));
         }
-        if self.holds_none() {
-            return CountAnswer::Refused(Refusal::EmptySet(0));
-        }
-        CountAnswer::Count(self.arity)
+        Ok(self.arity)
     }
 
     // The rules whose type at an argument fits a part of this type: its own constructor, or the scalars that its scalar converts to; the
     // crate's `arg` is both steps. At or above the arity, EMPTY itself. Refused 7 for a type code above 180, then as the set is.
-    pub fn arg(self, part: Part, i: usize, t: u8) -> RegularAnswer
+    #[tactic(auto, unfolding(crate::specs::Regular::regular_arg))]
+    pub fn arg(self, part: Part, i: usize, t: u8) -> Result<Regular, Refusal>
         ensures { regular_paper result ≡ regular_arg part i t self }
     {
         if LAST_CODE < t {
-            return RegularAnswer::Refused(Refusal::Unknown(0));
+            return Err(Refusal::Unknown(0));
         }
-        if let Verdict::Refused(why) = self.verdict() {
-            return RegularAnswer::Refused(why);
+        self.verdict()?;
+        if usize::from(self.arity) <= i {
+            return Ok(Regular::EMPTY);
         }
-        if (self.arity as usize) <= i {
-            return RegularAnswer::Set(Regular::EMPTY);
-        }
-        RegularAnswer::Set(self.narrow(part, t))
+        Ok(self.narrow(part, t))
     }
 
     // One mask anded with what a type allows: the constructors by its shape, the scalars by its number. The rest is kept, also where
     // nothing is left.
+    #[tactic(auto, unfolding(crate::specs::Regular::narrowed))]
     pub fn narrow(self, part: Part, t: u8) -> Regular
         ensures { set_paper result ≡ set_paper (narrowed part t self) }
     {
-        let arity = self.arity;
-        let constructors = self.constructors;
-        let scalars = self.scalars;
-        let conclude = self.conclude;
         match part {
             Part::Shape => Regular {
-                arity: arity,
-                constructors: constructors.meet(ConstructorSet::singleton(t)),
-                scalars: scalars,
-                conclude: conclude,
+                constructors: self.constructors.meet(ConstructorSet::singleton(t)),
+                ..self
             },
             Part::Number => Regular {
-                arity: arity,
-                constructors: constructors,
-                scalars: scalars.meet(reached_scalars(t)),
-                conclude: conclude,
+                scalars: self.scalars.meet(reached_scalars(t)),
+                ..self
             },
         }
     }
 
     // The rules without an abstract argument. Refused as the set is.
-    pub fn concrete_only(self) -> RegularAnswer
+    #[tactic(auto, unfolding(crate::specs::Regular::regular_concrete))]
+    pub fn concrete_only(self) -> Result<Regular, Refusal>
         ensures { regular_paper result ≡ regular_concrete self }
     {
-        if let Verdict::Refused(why) = self.verdict() {
-            return RegularAnswer::Refused(why);
-        }
-        RegularAnswer::Set(self.concrete())
+        self.verdict()?;
+        Ok(self.concrete())
     }
 
     // The concrete scalars alone.
+    #[tactic(auto, unfolding(crate::specs::Regular::concrete_set))]
     pub fn concrete(self) -> Regular
         ensures { set_paper result ≡ set_paper (concrete_set self) }
     {
-        let constructors = self.constructors;
-        let scalars = self.scalars.meet(ScalarSet::CONCRETE);
-        let conclude = self.conclude;
         Regular {
-            arity: self.arity,
-            constructors: constructors,
-            scalars: scalars,
-            conclude: conclude,
+            scalars: self.scalars.meet(ScalarSet::CONCRETE),
+            ..self
         }
     }
 
     // The first rule, where one constructor is left. Refused as the set is, 1 where it has no rule, 2 with several constructors, then
     // 13 where the rule has no conclusion.
-    pub fn most_preferred(self) -> RuleAnswer
+    pub fn most_preferred(self) -> Result<Rule, Refusal>
         ensures { rule_paper result ≡ regular_preferred self }
     {
-        if let Verdict::Refused(why) = self.verdict() {
-            return RuleAnswer::Refused(why);
+        if self.is_empty()? {
+            return Err(Refusal::EmptySet(0));
         }
-        if self.holds_none() {
-            return RuleAnswer::Refused(Refusal::EmptySet(0));
-        }
-        match self.constructors.size() {
-            SizeAnswer::Refused(why) => RuleAnswer::Refused(why),
-            SizeAnswer::Size(size) => match self.scalars.most_general_scalar() {
-                ScalarAnswer::Refused(why) => RuleAnswer::Refused(why),
-                ScalarAnswer::Scalar(scalar) => self.rule(size, scalar),
-            },
-        }
+        let size = self.constructors.size()?;
+        let scalar = self.scalars.most_general_scalar()?;
+        self.rule(size, scalar)
     }
 
     // The rule whose arguments are of this constructor and this scalar. Refused 7 at 0 for an unknown constructor, at 1 for an unknown
     // scalar; then as the set is, then 13 where the rule has no conclusion.
-    pub fn rule_of(self, constructor: Constructor, scalar: Scalar) -> RuleAnswer
+    pub fn rule_of(self, constructor: Constructor, scalar: Scalar) -> Result<Rule, Refusal>
         ensures { rule_paper result ≡ regular_rule constructor.0 scalar.0 self }
     {
-        match constructor.size() {
-            SizeAnswer::Refused(why) => RuleAnswer::Refused(why),
-            SizeAnswer::Size(size) => {
-                if Scalar::COUNT <= scalar.0 {
-                    return RuleAnswer::Refused(Refusal::Unknown(1));
-                }
-                match self.verdict() {
-                    Verdict::Refused(why) => RuleAnswer::Refused(why),
-                    Verdict::Accepted => self.rule(size, scalar),
-                }
-            }
+        let size = constructor.size()?;
+        if Scalar::COUNT <= scalar.0 {
+            return Err(Refusal::Unknown(1));
         }
+        self.verdict()?;
+        self.rule(size, scalar)
     }
 
     // The rule of a tested set whose arguments have this size and scalar.
-    fn rule(self, size: ConstructorSize, scalar: Scalar) -> RuleAnswer
+    fn rule(self, size: ConstructorSize, scalar: Scalar) -> Result<Rule, Refusal>
         requires { self.arity ≤ most_arguments }
         ensures { rule_paper result ≡ sized_rule self size scalar.0 }
     {
-        let n = self.arity;
-        let conclusion = self.conclude;
-        match size.to_inner(scalar) {
-            CodeAnswer::Refused(why) => RuleAnswer::Refused(why),
-            CodeAnswer::Code(t) => match conclusion.conclude(t, size, scalar) {
-                CodeAnswer::Refused(why) => RuleAnswer::Refused(why),
-                CodeAnswer::Code(result) => RuleAnswer::Rule(Rule {
-                    a0: t,
-                    a1: t,
-                    a2: t,
-                    a3: t,
-                    count: n,
-                    result: result,
-                }
-                .cleaned()),
-            },
-        }
+        let t = size.to_inner(scalar)?;
+        let result = self.conclude.conclude(t, size, scalar)?;
+        let rule = Rule {
+            a0: t,
+            a1: t,
+            a2: t,
+            a3: t,
+            count: self.arity,
+            result,
+        };
+        Ok(rule.cleaned())
     }
 
     // All rules in order. Refused as the set is, then 13 where some rule has no conclusion.
-    pub fn overload_list(self) -> Listing
+    #[tactic(auto, using(crate::proofs::Listings::of_sets), unfolding(crate::specs::Regular::regular_listing, crate::specs::private::Tested::concluded_listing))]
+    pub fn overload_list(self) -> Result<Listing, Refusal>
         ensures { listing_paper result ≡ regular_listing self }
     {
-        if let Verdict::Refused(why) = self.verdict() {
-            return no_listing(why);
-        }
+        self.verdict()?;
         self.listed()
     }
 
     // The types that an argument may have, in order; none at or above the arity. Refused as the set is.
-    pub fn allowed_args(self, i: usize) -> AllowedArgs
+    #[tactic(auto, using(crate::proofs::Listings::of_sets), unfolding(crate::specs::Regular::regular_allowed, rules::specs::Listing::accepted_types))]
+    pub fn allowed_args(self, i: usize) -> Result<AllowedArgs, Refusal>
         ensures { types_paper result ≡ regular_allowed i self }
     {
-        if let Verdict::Refused(why) = self.verdict() {
-            return no_types(why);
-        }
-        if (self.arity as usize) <= i {
-            return AllowedArgs {
-                answer: CountAnswer::Count(0),
+        self.verdict()?;
+        if usize::from(self.arity) <= i {
+            return Ok(AllowedArgs {
+                count: 0,
                 codes: no_codes(),
-            };
+            });
         }
-        let found = self.codes();
-        let codes = found.codes;
-        AllowedArgs {
-            answer: CountAnswer::Count(found.count as u8),
-            codes: codes,
-        }
+        Ok(self.codes())
     }
 
-    // The rules of a tested set, in order; refused 13 where one has no conclusion.
-    fn listed(self) -> Listing
+    // The rules of a tested set, in order; refused 13 where one has no conclusion. That the set was tested is required: the fields of a set
+    // are open, so a type for tested ones would be a copy, which two functions do not need.
+    #[tactic(auto, using(crate::proofs::Listings::of_sets))]
+    fn listed(self) -> Result<Listing, Refusal>
         requires { Known self }
         ensures { listing_paper result ≡ concluded_listing self }
     {
         let found = self.codes();
-        let codes = found.codes;
-        let count = found.count;
         let mut rules = no_rules();
-        let mut k: usize = 0;
-        while k < count {
-            let code = codes[k];
-            match self.rule_of(
-                Constructor(code / Scalar::COUNT),
-                Scalar(code % Scalar::COUNT),
-            ) {
-                RuleAnswer::Refused(why) => {
-                    return no_listing(why);
-                }
-                RuleAnswer::Rule(rule) => {
-                    rules[k] = rule;
-                }
-            }
-            k += 1;
+        let codes = &found.codes[..usize::from(found.count)];
+        for (k, code) in codes.iter().enumerate() {
+            let constructor = Constructor(*code / Scalar::COUNT);
+            rules[k] = self.rule_of(constructor, Scalar(*code % Scalar::COUNT))?;
         }
-        Listing {
-            answer: CountAnswer::Count(count as u8),
-            rules: rules,
-        }
+        Ok(Listing {
+            count: found.count,
+            rules,
+        })
     }
 
     // The argument types of the rules: each constructor in turn, over each scalar in turn.
-    fn codes(self) -> Codes
+    fn codes(self) -> AllowedArgs
         requires { Known self }
         ensures { result ≡ codes_found (codes_of self) }
     {
-        let scalars = self.scalars;
-        let mut found = Codes {
-            codes: no_codes(),
+        let mut found = AllowedArgs {
             count: 0,
+            codes: no_codes(),
         };
-        let mut walk = OneBitsIter(self.constructors.0 as u64);
-        loop {
-            match walk.next() {
-                BitStep::Done => {
-                    return found;
-                }
-                BitStep::Bit(bit, rest) => {
-                    found = found.row(Constructor(bit.number().0), scalars);
-                    walk = rest;
-                }
-            }
+        for bit in OneBitsIter(u64::from(self.constructors.0)) {
+            put_row(&mut found, Constructor(bit.number().0), self.scalars);
         }
+        found
     }
 }
 
-// Argument types, and how many of them there are.
-#[derive(Clone, Copy)]
-struct Codes {
-    codes: [u8; LONGEST_LISTING],
-    count: usize,
-}
-
-impl Codes {
-    // The types of one constructor over each scalar in turn, behind those found so far.
-    fn row(self, constructor: Constructor, scalars: ScalarSet) -> Codes
-        requires { RowFits self constructor.0 scalars.0 }
-        ensures { result ≡ put self (map (type_code constructor.0) (bits scalar_count scalars.0)) }
-    {
-        let mut codes = self.codes;
-        let mut count = self.count;
-        let mut walk = OneBitsIter(scalars.0 as u64);
-        loop {
-            match walk.next() {
-                BitStep::Done => {
-                    return Codes {
-                        codes: codes,
-                        count: count,
-                    };
-                }
-                BitStep::Bit(bit, rest) => {
-                    codes[count] = constructor.0 * Scalar::COUNT + bit.number().0;
-                    count += 1;
-                    walk = rest;
-                }
-            }
-        }
+// Puts the types of one constructor over each scalar in turn behind those found so far.
+fn put_row(found: &mut AllowedArgs, constructor: Constructor, scalars: ScalarSet)
+    requires { RowFits found.old constructor.0 scalars.0 }
+    ensures { found.new ≡ put found.old (map (type_code constructor.0) (bits scalar_count scalars.0)) }
+{
+    for bit in OneBitsIter(u64::from(scalars.0)) {
+        found.codes[usize::from(found.count)] = constructor.0 * Scalar::COUNT + bit.number().0;
+        found.count += 1;
     }
 }
 
@@ -385,7 +280,7 @@ impl Codes {
 fn reached_scalars(t: u8) -> ScalarSet
     ensures { result.0 ≡ reached_scalars t }
 {
-    let LeafScalar::Scalar(scalar) = leaf_scalar(t) else {
+    let Ok(Some(scalar)) = leaf_scalar(t) else {
         return ScalarSet::EMPTY;
     };
     ScalarSet::convertible_from(scalar)
@@ -394,12 +289,13 @@ fn reached_scalars(t: u8) -> ScalarSet
 impl ConclusionRule {
     // The result type of a rule whose arguments have the type, which is of this size and scalar. Refused 13 where Frexp and Modf have
     // no result.
-    fn conclude(self, t: u8, size: ConstructorSize, scalar: Scalar) -> CodeAnswer
+    #[tactic(auto, unfolding(crate::specs::private::Tested::concluded_for))]
+    fn conclude(self, t: u8, size: ConstructorSize, scalar: Scalar) -> Result<u8, Refusal>
         requires { inner_of size scalar.0 ≡ accepted (t ∷ []) }
         ensures { code_paper result ≡ concluded_for self size scalar.0 }
     {
         match self {
-            ConclusionRule::ArgumentType => CodeAnswer::Code(t),
+            ConclusionRule::ArgumentType => Ok(t),
             ConclusionRule::Scalar => ConstructorSize::Scalar.to_inner(scalar),
             ConclusionRule::Frexp => for_frexp_modf(Predeclared::Frexp, size, scalar),
             ConclusionRule::Modf => for_frexp_modf(Predeclared::Modf, size, scalar),
@@ -410,5 +306,38 @@ impl ConclusionRule {
             ConclusionRule::Vec4I => ConstructorSize::VEC4.to_inner(Scalar::I32),
             ConclusionRule::Vec4U => ConstructorSize::VEC4.to_inner(Scalar::U32),
         }
+    }
+}
+
+// The conclusion of a number, in the order of the crate's. Refused 7 from 10 on.
+impl TryFrom<u8> for ConclusionRule {
+    type Error = Refusal;
+
+    ghost try_from_gives = { λ number r. r ≡ conclusion_from number };
+
+    #[tactic(auto, unfolding(crate::specs::SetPaper::conclusion_from, crate::specs::SetPaper::conclusion_of))]
+    fn try_from(number: u8) -> Result<ConclusionRule, Refusal> {
+        match number {
+            0 => Ok(ConclusionRule::ArgumentType),
+            1 => Ok(ConclusionRule::Scalar),
+            2 => Ok(ConclusionRule::Frexp),
+            3 => Ok(ConclusionRule::Modf),
+            4 => Ok(ConclusionRule::U32),
+            5 => Ok(ConclusionRule::I32),
+            6 => Ok(ConclusionRule::Vec2F),
+            7 => Ok(ConclusionRule::Vec4F),
+            8 => Ok(ConclusionRule::Vec4I),
+            9 => Ok(ConclusionRule::Vec4U),
+            _ => Err(Refusal::Unknown(0)),
+        }
+    }
+}
+
+// The number of a conclusion, in the same order.
+impl From<ConclusionRule> for u8 {
+    ghost from_gives = { λ conclusion number. number ≡ conclusion_number conclusion };
+
+    fn from(conclusion: ConclusionRule) -> u8 {
+        conclusion as u8
     }
 }

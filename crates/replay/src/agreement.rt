@@ -2,13 +2,12 @@
 // set, and must list the same rules.
 
 use crate::answers::is_refusal;
-use crate::hand_made::{any_of, is_regular, regular_of};
+use crate::hand_made::{is_regular, regular_in};
 use crate::parts::{first, rest};
 use crate::set_answers::{accepted, listing_agrees, preferred_agrees};
 use crate::steps::stepped;
 use lists::{AnyOverloadSet, expand};
 use regular::{ConclusionRule, Regular};
-use scalars::Verdict;
 
 // The most rules that are written out, by document 01.
 const MOST_EXPANDED: u32 = 63;
@@ -20,68 +19,53 @@ const OTHER_SCALARS: u16 = 0b1000_1111_1111;
 
 // Whether the expansion answers as the record of its Regular set says. Where there is no set of arity 1 to 4, there is nothing to compare.
 pub fn agrees(record: &[u8]) -> bool {
-    let set = set_in(record);
-    if set.arity == 0 {
-        return true;
+    match set_in(record) {
+        None => true,
+        Some(set) => expansion_agrees(set, rest(record)),
     }
-    expansion_agrees(set, rest(record))
 }
 
 // Whether the record has a Regular set of arity 1 to 4 that is expanded.
 pub fn expands(record: &[u8]) -> bool {
-    let set = set_in(record);
-    if set.arity == 0 {
-        return false;
-    }
-    let list = expand(set);
-    let verdict = list.answer;
-    match verdict {
-        Verdict::Refused(_) => false,
-        Verdict::Accepted => true,
+    match set_in(record) {
+        None => false,
+        Some(set) => expand(set).is_ok(),
     }
 }
 
-// The record's Regular set; the empty one, of arity 0, where it has none.
-fn set_in(record: &[u8]) -> Regular {
+// The record's Regular set of arity 1 to 4, if it has one.
+fn set_in(record: &[u8]) -> Option<Regular> {
     let made = first(record);
     if !is_regular(made) {
-        return Regular::EMPTY;
+        return None;
     }
-    regular_of(made)
+    let set = regular_in(made).ok()?;
+    if set.arity == 0 {
+        return None;
+    }
+    Some(set)
 }
 
 // Whether the expansion, after the steps, answers as the parts say, or is refused as it should be.
 fn expansion_agrees(set: Regular, parts: &[u8]) -> bool {
-    let start = any_of(expand(set));
-    let end = stepped(start, first(parts));
-    let before = start.answer;
-    let after = end.answer;
-    let reached = end.set;
     let number = number_of(set);
-    if let Verdict::Refused(why) = before {
-        return is_refusal(why, number, 0);
-    }
-    if number != 0 {
-        return false;
-    }
-    match after {
-        Verdict::Refused(_) => false,
-        Verdict::Accepted => answers_agree(reached, rest(parts)),
+    match expand(set) {
+        Err(why) => is_refusal(why, number, 0),
+        Ok(list) => {
+            number == 0
+                && match stepped(AnyOverloadSet::from_list(list), first(parts)) {
+                    Err(_) => false,
+                    Ok(reached) => answers_agree(reached, rest(parts)),
+                }
+        }
     }
 }
 
 // Whether the listing is the stored one and, where the crate prefers a rule, that one too.
 fn answers_agree(set: AnyOverloadSet, parts: &[u8]) -> bool {
-    if !listing_agrees(set, first(parts)) {
-        return false;
-    }
     let counts = rest(parts);
-    let preferred = rest(counts);
-    let stored = first(preferred);
-    if !accepted(stored) {
-        return true;
-    }
-    preferred_agrees(set, stored)
+    let preferred = first(rest(counts));
+    listing_agrees(set, first(parts)) && (!accepted(preferred) || preferred_agrees(set, preferred))
 }
 
 // The number of the expansion by document 01: 3 for more than 63 rules, then 13 where a rule has no conclusion, otherwise 0.
@@ -91,46 +75,22 @@ fn number_of(set: Regular) -> u8 {
     if too_many(constructors, scalars) {
         return 3;
     }
-    let conclusion = set.conclude;
-    if !is_frexp_or_modf(conclusion) {
-        return 0;
+    match set.conclude {
+        ConclusionRule::Frexp | ConclusionRule::Modf if inconclusive(constructors, scalars) => 13,
+        _ => 0,
     }
-    if inconclusive(constructors, scalars) {
-        return 13;
-    }
-    0
 }
 
 // Whether there are more than 63 rules, one for each constructor over each scalar.
 fn too_many(constructors: u16, scalars: u16) -> bool {
     let rows = u16::count_ones(constructors);
     let row = u16::count_ones(scalars);
-    if rows == 0 {
-        return false;
-    }
-    MOST_EXPANDED / rows < row
-}
-
-fn is_frexp_or_modf(conclusion: ConclusionRule) -> bool {
-    if let ConclusionRule::Frexp = conclusion {
-        return true;
-    }
-    if let ConclusionRule::Modf = conclusion {
-        return true;
-    }
-    false
+    rows != 0 && MOST_EXPANDED / rows < row
 }
 
 // Whether a rule of Frexp or Modf among these has no conclusion.
 fn inconclusive(constructors: u16, scalars: u16) -> bool {
-    if constructors == 0 {
-        return false;
-    }
-    if scalars == 0 {
-        return false;
-    }
-    if constructors & MATRICES != 0 {
-        return true;
-    }
-    scalars & OTHER_SCALARS != 0
+    constructors != 0
+        && scalars != 0
+        && (constructors & MATRICES != 0 || scalars & OTHER_SCALARS != 0)
 }

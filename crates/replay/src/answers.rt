@@ -7,8 +7,5 @@ pub const NONE: u8 = UNUSED;
 
 // Whether the refusal has this number and this place.
 pub fn is_refusal(why: Refusal, number: u8, place: usize) -> bool {
-    if why.number() != number {
-        return false;
-    }
-    why.place() == place
+    why.number() == number && why.place() == place
 }

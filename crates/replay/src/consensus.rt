@@ -2,38 +2,37 @@
 // base or 1 a component, the two bytes of that component's number, and the components.
 
 use crate::answers::{NONE, is_refusal};
-use crate::records::{wide, word};
+use crate::records::word;
 use scalars::Scalar;
-use types::{Base, ConsensusAnswer, Giver, automatic_conversion_consensus};
+use types::automatic_conversion_consensus;
 
 // Whether the scalar and its giver, or the refusal, are the stored ones.
 pub fn agrees(record: &[u8]) -> bool {
-    if record.len() < 6 {
+    let &[base, number, value, kind, _, _, ..] = record else {
         return false;
-    }
-    let base = base_of(record[0]);
-    let number = record[1];
-    let value = record[2];
-    match automatic_conversion_consensus(base, &record[6..]) {
-        ConsensusAnswer::Scalar(scalar, giver) => {
-            number == 0 && scalar.0 == value && is_giver(giver, record[3], word(record, 4))
+    };
+    match automatic_conversion_consensus(base_of(base), &record[6..]) {
+        Ok(agreed) => {
+            number == 0
+                && agreed.scalar.0 == value
+                && is_giver(agreed.component, kind, word(record, 4))
         }
-        ConsensusAnswer::Refused(why) => is_refusal(why, number, wide(value)),
+        Err(why) => is_refusal(why, number, usize::from(value)),
     }
 }
 
 // Whether the giver is of this kind, and a component has this number.
-fn is_giver(giver: Giver, kind: u8, component: usize) -> bool {
-    match giver {
-        Giver::Base => kind == 0 && component == wide(NONE),
-        Giver::Component(k) => kind == 1 && component == k,
+fn is_giver(component: Option<usize>, kind: u8, stored: usize) -> bool {
+    match component {
+        None => kind == 0 && stored == usize::from(NONE),
+        Some(k) => kind == 1 && stored == k,
     }
 }
 
-// The stored base, or none.
-fn base_of(base: u8) -> Base {
+// The stored base, or none: a byte of the record.
+fn base_of(base: u8) -> Option<Scalar> {
     if base == NONE {
-        return Base::Nothing;
+        return None;
     }
-    Base::Scalar(Scalar(base))
+    Some(Scalar(base))
 }

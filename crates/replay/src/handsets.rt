@@ -7,7 +7,9 @@ use crate::parts::{first, rest};
 use crate::set_answers::{allowed_agrees, counts_agree, listing_agrees, preferred_agrees};
 use crate::steps::stepped;
 use lists::AnyOverloadSet;
-use scalars::Verdict;
+
+// The arguments whose allowed types are stored are those below this one.
+const ARGUMENTS: usize = 5;
 
 // Whether the set answers everything as stored, and so does its expansion.
 pub fn agrees(record: &[u8]) -> bool {
@@ -16,17 +18,9 @@ pub fn agrees(record: &[u8]) -> bool {
     if steps.len() % 2 != 0 {
         return false;
     }
-    let end = stepped(made(first(record)), steps);
-    let verdict = end.answer;
-    let set = end.set;
-    match verdict {
-        Verdict::Refused(_) => false,
-        Verdict::Accepted => {
-            if !answers_agree(set, rest(then)) {
-                return false;
-            }
-            agreement::agrees(record)
-        }
+    match stepped(made(first(record)), steps) {
+        Err(_) => false,
+        Ok(set) => answers_agree(set, rest(then)) && agreement::agrees(record),
     }
 }
 
@@ -34,38 +28,20 @@ pub fn agrees(record: &[u8]) -> bool {
 fn answers_agree(set: AnyOverloadSet, parts: &[u8]) -> bool {
     let counts = rest(parts);
     let preferred = rest(counts);
-    if !listing_agrees(set, first(parts)) {
-        return false;
-    }
-    if !counts_agree(set, first(counts)) {
-        return false;
-    }
-    if !preferred_agrees(set, first(preferred)) {
-        return false;
-    }
-    all_allowed_agree(set, rest(preferred))
+    listing_agrees(set, first(parts))
+        && counts_agree(set, first(counts))
+        && preferred_agrees(set, first(preferred))
+        && all_allowed_agree(set, rest(preferred))
 }
 
 // Whether the types allowed at each argument are those of the parts, and nothing follows.
-fn all_allowed_agree(set: AnyOverloadSet, at_0: &[u8]) -> bool {
-    let at_1 = rest(at_0);
-    let at_2 = rest(at_1);
-    let at_3 = rest(at_2);
-    let at_4 = rest(at_3);
-    if !allowed_agrees(set, 0, first(at_0)) {
-        return false;
+fn all_allowed_agree(set: AnyOverloadSet, parts: &[u8]) -> bool {
+    let mut left = parts;
+    for i in 0..ARGUMENTS {
+        if !allowed_agrees(set, i, first(left)) {
+            return false;
+        }
+        left = rest(left);
     }
-    if !allowed_agrees(set, 1, first(at_1)) {
-        return false;
-    }
-    if !allowed_agrees(set, 2, first(at_2)) {
-        return false;
-    }
-    if !allowed_agrees(set, 3, first(at_3)) {
-        return false;
-    }
-    if !allowed_agrees(set, 4, first(at_4)) {
-        return false;
-    }
-    rest(at_4).len() == 0
+    left.is_empty()
 }

@@ -3,7 +3,7 @@
 // Each list of answers is a file of data/ and a file of src/ under the same name, which holds one public function, `agrees`: whether our
 // answer to a record's question is the stored one. The lists of expressions, `worksheets`, `measured_worksheets`, `room` and `limits`,
 // share `typings`, `givers` shares `consensus`, and `measured_calls` and `measured_refused` share the files of `calls` and `refused`.
-// `stored_lists` names them all; `boundary` and `limits` hold the documents' answers in place of the crate's, and `givers` document 02's. The
+// `boundary` and `limits` hold the documents' answers in place of the crate's, and `givers` document 02's. The
 // crate knows no texts: those of `texts` are by a reader and a writer of the comparison's own. docs/STORED.md says what the records hold.
 
 #![tactic(auto)]
@@ -25,7 +25,6 @@ mod refused;
 mod rule_records;
 mod set_answers;
 mod steps;
-mod stored_lists;
 mod tally;
 mod texts;
 mod typings;
@@ -34,8 +33,7 @@ mod walk;
 use std::io;
 use std::io::Print;
 use std::rt::Files;
-use stored_lists::StoredList;
-use walk::replay;
+use walk::{replay, replay_expanding};
 
 fn main(rt: HostRuntime) -> io::Result<()> {
     scalars(&rt)?;
@@ -46,33 +44,33 @@ fn main(rt: HostRuntime) -> io::Result<()> {
 
 // Scalars: their combinations, conversions, named sets and consensus.
 fn scalars(rt: &(impl Files + Print)) -> io::Result<()> {
-    replay(rt, StoredList::Combine, "combine")?;
-    replay(rt, StoredList::Convertible, "convertible")?;
-    replay(rt, StoredList::NamedSets, "named_sets")?;
-    replay(rt, StoredList::Consensus, "consensus")?;
-    replay(rt, StoredList::Consensus, "givers")
+    replay(rt, "combine", combine::agrees)?;
+    replay(rt, "convertible", convertible::agrees)?;
+    replay(rt, "named_sets", named_sets::agrees)?;
+    replay(rt, "consensus", consensus::agrees)?;
+    replay(rt, "givers", consensus::agrees)
 }
 
 // Sets made by hand.
 fn sets(rt: &(impl Files + Print)) -> io::Result<()> {
-    replay(rt, StoredList::HandSets, "handsets")?;
-    replay(rt, StoredList::Boundary, "boundary")
+    replay_expanding(rt, "handsets", handsets::agrees, agreement::expands)?;
+    replay(rt, "boundary", boundary::agrees)
 }
 
 // Calls of the functions.
 fn calls(rt: &(impl Files + Print)) -> io::Result<()> {
-    replay(rt, StoredList::Calls, "calls")?;
-    replay(rt, StoredList::Calls, "measured_calls")?;
-    replay(rt, StoredList::Refused, "refused")?;
-    replay(rt, StoredList::Refused, "measured_refused")?;
-    replay(rt, StoredList::Allowed, "allowed")
+    replay(rt, "calls", call_records::agrees)?;
+    replay(rt, "measured_calls", call_records::agrees)?;
+    replay(rt, "refused", refused::agrees)?;
+    replay(rt, "measured_refused", refused::agrees)?;
+    replay(rt, "allowed", allowed::agrees)
 }
 
 // Expressions, and their texts.
 fn expressions(rt: &(impl Files + Print)) -> io::Result<()> {
-    replay(rt, StoredList::Expressions, "worksheets")?;
-    replay(rt, StoredList::Expressions, "measured_worksheets")?;
-    replay(rt, StoredList::Expressions, "room")?;
-    replay(rt, StoredList::Expressions, "limits")?;
-    replay(rt, StoredList::Texts, "texts")
+    replay(rt, "worksheets", typings::agrees)?;
+    replay(rt, "measured_worksheets", typings::agrees)?;
+    replay(rt, "room", typings::agrees)?;
+    replay(rt, "limits", typings::agrees)?;
+    replay(rt, "texts", texts::agrees)
 }

@@ -6,28 +6,28 @@ use types::ConstructorSet;
 
 // Whether the set of that name has the stored mask.
 pub fn agrees(record: &[u8]) -> bool {
-    if record.len() != 3 {
+    let &[name, _, _] = record else {
         return false;
+    };
+    match mask_of(name) {
+        None => false,
+        Some(mask) => usize::from(mask) == word(record, 1),
     }
-    let name = record[0];
-    if 8 < name {
-        return false;
-    }
-    mask_of(name) as usize == word(record, 1)
 }
 
 // The mask of the set with this number.
-fn mask_of(name: u8) -> u16 {
+fn mask_of(name: u8) -> Option<u16> {
     let named = ScalarSet::named();
     match name {
-        0 => named.float.0,
-        1 => named.integer.0,
-        2 => named.numeric.0,
-        3 => named.abstracts.0,
-        4 => named.concrete.0,
-        5 => named.concrete_integer.0,
-        6 => named.concrete_float.0,
-        7 => named.float_abstract_unimplemented.0,
-        _ => ConstructorSet::vecn().0,
+        0 => Some(named.float.0),
+        1 => Some(named.integer.0),
+        2 => Some(named.numeric.0),
+        3 => Some(named.abstracts.0),
+        4 => Some(named.concrete.0),
+        5 => Some(named.concrete_integer.0),
+        6 => Some(named.concrete_float.0),
+        7 => Some(named.float_abstract_unimplemented.0),
+        8 => Some(ConstructorSet::vecn().0),
+        _ => None,
     }
 }

@@ -1,16 +1,38 @@
 // A file of stored answers, and its records: each is two bytes of length, the low one first, and that many bytes.
 
-ghost use Rattle.std.specs.Prelude.{◌≡◌, ◌≤◌, length, take};
+ghost use Rattle.std.specs.Prelude.{◌≡◌, ◌≤◌, ◌<◌, length, take};
+ghost use Rattle.std.specs.Option.{IfSome};
+ghost use Rattle.std.specs.Iterator.{at_most};
 
 use input::read_full;
 use std::fs::File;
 use std::rt::Files;
 
-// A part of a file, from one offset up to another.
+// The records of a file, from the first on. Where the file ends within one, that one is the last, and is none.
 #[derive(Clone, Copy)]
-pub struct Span {
-    pub from: usize,
-    pub to: usize,
+pub struct Records<'a>(pub &'a [u8]);
+
+impl<'a> Iterator for Records<'a> {
+    type Item = Option<&'a [u8]>;
+
+    ghost remaining = { λ records. at_most (length records.0.now) };
+
+    fn next(&mut self) -> Option<Option<&'a [u8]>> {
+        let file = self.0;
+        if file.is_empty() {
+            return None;
+        }
+        match split_record(file) {
+            None => {
+                self.0 = &file[..0];
+                Some(None)
+            }
+            Some((record, behind)) => {
+                self.0 = behind;
+                Some(Some(record))
+            }
+        }
+    }
 }
 
 // Room for one file.
@@ -35,43 +57,26 @@ pub fn load(files: &impl Files, path: &str, into: &mut [u8]) -> usize
     n
 }
 
-// Where the bytes of the record at `at` stand. They start past `at`, but where the file is cut short: there the answer is 0 to 0.
-pub fn span_at(file: &[u8], at: usize) -> Span
-    ensures { (result.from ≤ result.to) × (result.to ≤ length file.now) }
+// The bytes of the first record, and what stands behind it; none where it is cut short.
+pub fn split_record(file: &[u8]) -> Option<(&[u8], &[u8])>
+    ensures { IfSome result (λ it. length it.1.now < length file.now) }
 {
-    let n = word(file, at);
-    if file.len() < 2 {
-        return Span { from: 0, to: 0 };
+    let [low, high, behind @ ..] = file else {
+        return None;
+    };
+    let n = usize::from(u16::from_le_bytes([*low, *high]));
+    if behind.len() < n {
+        return None;
     }
-    if file.len() - 2 < at {
-        return Span { from: 0, to: 0 };
-    }
-    let from = at + 2;
-    if file.len() - from < n {
-        return Span { from: 0, to: 0 };
-    }
-    Span {
-        from: from,
-        to: from + n,
-    }
+    Some(behind.split_at(n))
 }
 
 // The two bytes at `i` as a number, the low one first; 0 where they are not both there.
 pub fn word(s: &[u8], i: usize) -> usize
     ensures { result ≤ 65535 }
 {
-    if s.len() < 2 {
+    if s.len() < 2 || s.len() - 2 < i {
         return 0;
     }
-    if s.len() - 2 < i {
-        return 0;
-    }
-    wide(s[i]) + 256 * wide(s[i + 1])
-}
-
-// A byte as a number.
-pub fn wide(b: u8) -> usize
-    ensures { result ≤ 255 }
-{
-    b as usize
+    usize::from(u16::from_le_bytes([s[i], s[i + 1]]))
 }

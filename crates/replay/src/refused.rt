@@ -3,19 +3,15 @@
 
 use crate::answers::is_refusal;
 use crate::parts::{first, rest};
-use crate::records::wide;
-use calls::{CallAnswer, call_of};
+use calls::call_of;
 
 // Whether the call is refused by that number at that place, with the concrete-only switch off.
 pub fn agrees(record: &[u8]) -> bool {
-    if record.len() < 3 {
+    let [function, number, place, operands @ ..] = record else {
         return false;
-    }
-    let number = record[1];
-    let place = wide(record[2]);
-    let operands = &record[3..];
-    match call_of(record[0], first(operands), rest(operands), false) {
-        CallAnswer::Called(_, _) => false,
-        CallAnswer::Refused(why) => is_refusal(why, number, place),
+    };
+    match call_of(*function, first(operands), rest(operands), false) {
+        Ok(_) => false,
+        Err(why) => is_refusal(why, *number, usize::from(*place)),
     }
 }

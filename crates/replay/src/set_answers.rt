@@ -1,122 +1,66 @@
-// What a set answers, against what is stored of it. A stored answer is its number, and behind a 0 what was answered.
+// What a set answers, against what is stored of it. A stored answer is its number, and behind a 0 what was answered. Each kind of answer is
+// compared by a `match` of its own: one function over closures would be no shorter.
 
 use crate::answers::is_refusal;
-use crate::records::wide;
-use crate::rule_records::{rule_at, rules_agree, same};
+use crate::rule_records::{rule_in, rules_agree};
 use c_sets::RULE_BYTES;
 use lists::AnyOverloadSet;
-use rules::{LONGEST_LISTING, RuleAnswer};
-use scalars::{CountAnswer, Refusal};
+use scalars::Refusal;
 
 // Whether the stored answer is an acceptance.
 pub fn accepted(stored: &[u8]) -> bool {
-    if stored.len() == 0 {
-        return false;
+    match stored {
+        [0, ..] => true,
+        _ => false,
     }
-    stored[0] == 0
 }
 
 // Whether the stored answer is this refusal at this place.
-pub fn refused(why: Refusal, stored: &[u8], place: usize) -> bool {
-    if stored.len() != 1 {
-        return false;
+fn refused(why: Refusal, stored: &[u8], place: usize) -> bool {
+    match stored {
+        [number] => is_refusal(why, *number, place),
+        _ => false,
     }
-    is_refusal(why, stored[0], place)
 }
 
 // Whether the rules are the stored ones, in their order.
 pub fn listing_agrees(set: AnyOverloadSet, stored: &[u8]) -> bool {
-    let listing = set.overload_list();
-    let answer = listing.answer;
-    let rules = listing.rules;
-    match answer {
-        CountAnswer::Refused(why) => refused(why, stored, 0),
-        CountAnswer::Count(n) => {
-            if stored.len() == 0 {
-                return false;
-            }
-            if stored[0] != 0 {
-                return false;
-            }
-            rules_agree(rules, wide(n), &stored[1..])
-        }
+    match set.overload_list() {
+        Err(why) => refused(why, stored, 0),
+        Ok(listing) => match (stored, listing.rules.get(..usize::from(listing.count))) {
+            ([0, rules @ ..], Some(listed)) => rules_agree(listed, rules),
+            _ => false,
+        },
     }
 }
 
 // Whether the least and the most arguments are the stored ones.
 pub fn counts_agree(set: AnyOverloadSet, stored: &[u8]) -> bool {
-    if !count_agrees(set.min_arguments(), stored, 1) {
-        return false;
-    }
-    count_agrees(set.max_arguments(), stored, 2)
-}
-
-// Whether a count is the one stored at `at`.
-fn count_agrees(answer: CountAnswer, stored: &[u8], at: usize) -> bool {
-    match answer {
-        CountAnswer::Refused(why) => refused(why, stored, 0),
-        CountAnswer::Count(n) => {
-            if stored.len() != 3 {
-                return false;
-            }
-            if stored[0] != 0 {
-                return false;
-            }
-            if 3 <= at {
-                return false;
-            }
-            stored[at] == n
-        }
+    match (set.min_arguments(), set.max_arguments()) {
+        (Ok(least), Ok(most)) => stored == [0, least, most].as_slice(),
+        (Err(least), Err(most)) => refused(least, stored, 0) && refused(most, stored, 0),
+        _ => false,
     }
 }
 
 // Whether the preferred rule is the stored one.
 pub fn preferred_agrees(set: AnyOverloadSet, stored: &[u8]) -> bool {
     match set.most_preferred() {
-        RuleAnswer::Refused(why) => refused(why, stored, 0),
-        RuleAnswer::Rule(rule) => {
-            if stored.len() != RULE_BYTES + 1 {
-                return false;
-            }
-            if stored[0] != 0 {
-                return false;
-            }
-            same(rule, rule_at(stored, 1))
-        }
+        Err(why) => refused(why, stored, 0),
+        Ok(rule) => match stored {
+            [0, listed @ ..] => listed.len() == RULE_BYTES && rule == rule_in(listed),
+            _ => false,
+        },
     }
 }
 
 // Whether the types allowed at an argument are the stored ones, in their order.
 pub fn allowed_agrees(set: AnyOverloadSet, i: usize, stored: &[u8]) -> bool {
-    let allowed = set.allowed_args(i);
-    let answer = allowed.answer;
-    let codes = allowed.codes;
-    match answer {
-        CountAnswer::Refused(why) => refused(why, stored, i),
-        CountAnswer::Count(n) => {
-            if stored.len() == 0 {
-                return false;
-            }
-            if stored[0] != 0 {
-                return false;
-            }
-            codes_agree(codes, wide(n), &stored[1..])
-        }
+    match set.allowed_args(i) {
+        Err(why) => refused(why, stored, i),
+        Ok(allowed) => match (stored, allowed.codes.get(..usize::from(allowed.count))) {
+            ([0, codes @ ..], Some(listed)) => listed == codes,
+            _ => false,
+        },
     }
-}
-
-// Whether the first n types are the stored ones.
-fn codes_agree(codes: [u8; LONGEST_LISTING], n: usize, stored: &[u8]) -> bool {
-    if LONGEST_LISTING < n {
-        return false;
-    }
-    if stored.len() != n {
-        return false;
-    }
-    for k in 0..n {
-        if codes[k] != stored[k] {
-            return false;
-        }
-    }
-    true
 }

@@ -2,45 +2,30 @@
 // rules with an abstract argument. The crate's one step of an argument is a pair here, by its shape and then by its number.
 
 use crate::answers::NONE;
-use crate::records::wide;
-use lists::{AnyAnswer, AnyOverloadSet};
+use lists::AnyOverloadSet;
 use rules::Part;
-use scalars::Verdict;
+use scalars::Refusal;
 
 // The set after all steps, or the first refusal.
-pub fn stepped(start: AnyAnswer, steps: &[u8]) -> AnyAnswer {
-    let n = steps.len() / 2;
-    let mut here = start;
-    for k in 0..n {
-        here = step(here, steps[2 * k], steps[2 * k + 1]);
+pub fn stepped(
+    start: Result<AnyOverloadSet, Refusal>,
+    steps: &[u8],
+) -> Result<AnyOverloadSet, Refusal> {
+    let mut here = start?;
+    for step in steps.chunks(2) {
+        here = taken(here, step)?;
     }
-    here
+    Ok(here)
 }
 
-// The set after one step; a refusal stays.
-fn step(here: AnyAnswer, index: u8, t: u8) -> AnyAnswer {
-    let verdict = here.answer;
-    let set = here.set;
-    match verdict {
-        Verdict::Refused(_) => here,
-        Verdict::Accepted => taken(set, index, t),
-    }
-}
-
-// The answer to one step.
-fn taken(set: AnyOverloadSet, index: u8, t: u8) -> AnyAnswer {
-    if index == NONE && t == NONE {
+// The answer to one step; half a step changes nothing.
+fn taken(set: AnyOverloadSet, step: &[u8]) -> Result<AnyOverloadSet, Refusal> {
+    let &[index, code] = step else {
+        return Ok(set);
+    };
+    if index == NONE && code == NONE {
         return set.concrete_only();
     }
-    by_number(set.arg(Part::Shape, wide(index), t), wide(index), t)
-}
-
-// The answer to an argument's step by its number, behind the one by its shape; a refusal stays.
-fn by_number(shaped: AnyAnswer, i: usize, t: u8) -> AnyAnswer {
-    let verdict = shaped.answer;
-    let set = shaped.set;
-    match verdict {
-        Verdict::Refused(_) => shaped,
-        Verdict::Accepted => set.arg(Part::Number, i, t),
-    }
+    let i = usize::from(index);
+    set.arg(Part::Shape, i, code)?.arg(Part::Number, i, code)
 }

@@ -1,45 +1,58 @@
 // The walk over a list's records.
 
-use crate::records::{load, room, span_at};
-use crate::stored_lists::{StoredList, agrees, expands};
+use crate::records::{Records, load, room};
 use crate::tally::Tally;
 use std::io;
 use std::io::Print;
 use std::rt::Files;
 
-// Compares the list in the file of this name, and writes what came out.
-pub fn replay(rt: &(impl Files + Print), list: StoredList, name: &str) -> io::Result<()> {
+// Compares the list in the file of this name, and writes what came out. `agrees` tells whether our answer to a record's question is the
+// stored one; a record of another form than its list's does not agree. Whoever calls a closure requires that it may be called.
+pub fn replay<A: Fn(&[u8]) -> bool>(
+    rt: &(impl Files + Print),
+    name: &str,
+    agrees: A,
+) -> io::Result<()>
+    requires { A.IsAlwaysCallable agrees }
+{
+    replay_expanding(rt, name, agrees, |_| false)
+}
+
+// The same for a list of sets; `expands` tells whether a record holds one that is expanded, and its expansion compared.
+pub fn replay_expanding<A: Fn(&[u8]) -> bool, E: Fn(&[u8]) -> bool>(
+    rt: &(impl Files + Print),
+    name: &str,
+    agrees: A,
+    expands: E,
+) -> io::Result<()>
+    requires agrees { A.IsAlwaysCallable agrees }
+    requires expands { E.IsAlwaysCallable expands }
+{
     let mut space = room();
     let n = load(rt, name, &mut space);
-    let tally = compared(list, &space[..n]);
+    let tally = compared(&space[..n], agrees, expands);
     tally.print(rt, name)
 }
 
 // The tally of the whole file. An empty one, or one that ends within a record, counts as a difference.
-fn compared(list: StoredList, file: &[u8]) -> Tally {
-    let mut tally = Tally::new();
-    if file.len() == 0 {
-        return tally.broken();
+fn compared<A: Fn(&[u8]) -> bool, E: Fn(&[u8]) -> bool>(file: &[u8], agrees: A, expands: E) -> Tally
+    requires agrees { A.IsAlwaysCallable agrees }
+    requires expands { E.IsAlwaysCallable expands }
+{
+    let mut tally = Tally::default();
+    if file.is_empty() {
+        tally.count_broken();
     }
-    let mut at = 0;
-    while at < file.len() {
-        let span = span_at(file, at);
-        let from = span.from;
-        let to = span.to;
-        if from <= at {
-            return tally.broken();
+    for record in Records(file) {
+        match record {
+            None => tally.count_broken(),
+            Some(record) => {
+                tally.count(agrees(record));
+                if expands(record) {
+                    tally.count_expansion();
+                }
+            }
         }
-        tally = counted(tally, list, &file[from..to]);
-        at = to;
     }
     tally
-}
-
-// The tally with one record more.
-fn counted(tally: Tally, list: StoredList, record: &[u8]) -> Tally {
-    let after = tally.with(agrees(list, record));
-    if expands(list, record) {
-        return after.with_expansion();
-    }
-    after
 }

@@ -3,22 +3,32 @@
 use mathlib.Core.Path.{◌≡◌, refl, sym, ap, ◌∙◌}
 use mathlib.Core.Bool.{Bool, true, false, not}
 use mathlib.Core.List.{List, [], ◌∷◌}
-use Prim.Native.Nat.{ℕ, zero, suc, ◌/◌, ◌≤◌, ◌<◌, min}
+use Prim.Native.Nat.{ℕ, zero, suc, ◌/◌, ◌%◌, ◌≤◌, ◌<◌, min}
 use native.Mathlib.Omega.{arith}
-use lib.Dec.{eqb, leb}
+use lib.Dec.{eqb, leb, lit≤}
 use lib.ListN.{length, take, get_or, length-take, get_or-eq_default}
 use lib.Seq.{get_or-take}
 use borrow.Author.Tests.{le-leb, lt-leb, leb-true, leb-false, ltb-true, ne_eqb}
+use Rattle.std.specs.Prelude.{Result, Ok, Option, Some}
 use Rattle.scalars.specs.Paper.{unused}
+use Rattle.scalars.specs.declared.refusal.Refusal.{Refusal}
+use Rattle.scalars.specs.declared.scalar_set.Scalar.{Scalar}
+use Rattle.types.specs.TypeCode.{leaf_scalar}
+use Rattle.types.specs.TypePaper.{leaf_paper}
+use Rattle.types.proofs.TypeCodes.{leaf-some}
 use Rattle.scalars.specs.Mask.{choose, both, either, every}
 use Rattle.scalars.specs.Domain.{converts, scalar_count}
 use Rattle.types.specs.Domain.{value?, known?, constructor_part, scalar_part, is_abstract, other_type}
 use Rattle.rules.specs.Signature.{Signature, same_shape, same_number, reaches, fits_by, argument_passes, fits, takes, concrete}
 use Rattle.rules.proofs.Records.{all_concrete}
-use Rattle.rules.specs.Rule.{arguments_of, signature_of, known_rule}
+use Rattle.rules.specs.Rule.{arguments_of, signature_of, rule_of, known_rule}
 use Rattle.rules.specs.declared.rule.Rule.{Rule}
 use Rattle.rules.specs.declared.rule.Part.{Part}
 use Rattle.rules.specs.declared.rule.Part.TheVariants.{Shape, Number}
+
+-- what the scalar of a type says of the type
+pub scalar-some : (t : ℕ) {r : Result (Option Scalar) Refusal} {x : Option Scalar} {s : Scalar} → leaf_paper r ≡ leaf_scalar t → r ≡ Ok x → x ≡ Some s → (t < other_type) × (t % scalar_count ≡ s.0)
+scalar-some t e f g = leaf-some t (sym e ∙ ap leaf_paper f ∙ ap (λ (x : Option Scalar). leaf_paper (Ok x)) g)
 
 module _ {A : Type 0} where
   -- an entry of the first n of a list
@@ -133,3 +143,18 @@ module _ (r : Rule) where
       go : (b : Bool) → leb r.count i ≡ b → b ≡ leb (min r.count 4) i
       go true e = sym (le-leb (min r.count 4) i (omega (arith, leb-true r.count i e)))
       go false e = sym (lt-leb (min r.count 4) i (omega (arith, leb-false r.count i e)))
+
+  -- the record with each field in use, or `unused`
+  pub cleaned : rule_of (signature_of r) ≡ record {
+    a0 = choose (leb (min r.count 4) 0) unused r.a0;
+    a1 = choose (leb (min r.count 4) 1) unused r.a1;
+    a2 = choose (leb (min r.count 4) 2) unused r.a2;
+    a3 = choose (leb (min r.count 4) 3) unused r.a3;
+    count = min r.count 4;
+    result = r.result;
+  }
+  unfolding rule_of
+  cleaned = simp (argument-held 0 (lit≤ tt), argument-held 1 (lit≤ tt), argument-held 2 (lit≤ tt), argument-held 3 (lit≤ tt), count_of)
+
+-- what the check may use of a record
+pub ruleset of_records = (argument-here, argument-past, argument_fifth, known-four, concrete-four, fits-argument, count_of, cleaned)

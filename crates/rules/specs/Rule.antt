@@ -8,6 +8,7 @@ use Rattle.types.specs.Constructor.{constructor_of}
 use Rattle.types.specs.TypeCode.{predeclared_code, first_modf, first_frexp}
 use Rattle.scalars.specs.Paper.{Paper, accepted, refusal, when_accepted, unused}
 use Rattle.rules.specs.RulePaper.{rule_values, no_rule}
+pub use Rattle.rules.specs.RulePaper.{blank_rule}
 use Rattle.rules.specs.declared.rule.Rule.{Rule}
 use Rattle.rules.specs.declared.rule.Keep.{Keep}
 use Rattle.rules.specs.declared.rule.Keep.TheVariants.{Argument, Concrete}
@@ -28,9 +29,6 @@ signature_of r = record { arguments = arguments_of r; result = r.result }
 -- the record of a rule, with `unused` in the fields not in use
 unfoldable pub rule_of : Signature → Rule
 rule_of s = record { a0 = type_at 0 s; a1 = type_at 1 s; a2 = type_at 2 s; a3 = type_at 3 s; count = length s.arguments; result = s.result }
-
-abbrev pub blank_rule : Rule
-blank_rule = record { a0 = unused; a1 = unused; a2 = unused; a3 = unused; count = unused; result = unused }
 
 -- the arguments are value types, and the result is a type
 unfoldable pub known_rule : Rule → Bool

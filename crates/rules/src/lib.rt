@@ -5,9 +5,5 @@
 mod listing;
 mod rule;
 
-pub use listing::{
-    AllowedArgs, LONGEST_LISTING, Listing, no_codes, no_listing, no_rules, no_types,
-};
-pub use rule::{
-    Keep, MOST_ARGUMENTS, Part, Predeclared, Rule, RuleAnswer, for_frexp_modf, reaches,
-};
+pub use listing::{AllowedArgs, LONGEST_LISTING, Listing, no_codes, no_rules};
+pub use rule::{Keep, MOST_ARGUMENTS, Part, Predeclared, Rule, for_frexp_modf, reaches};

@@ -1,12 +1,12 @@
 -- An array of blanks that is filled from the front is the list that was put there, padded with blanks. Assumes nothing.
 use mathlib.Core.Path.{◌≡◌, sym, ap, ◌∙◌}
-use mathlib.Core.List.{List, [], ◌∷◌, ◌++◌, append-nil}
+use mathlib.Core.List.{List, [], ◌∷◌, ◌++◌}
 use Prim.Native.Nat.{ℕ, zero, suc, ◌+◌, ◌-◌, ◌≤◌}
-use native.Mathlib.Nat.{zero-add, zero-sub, sub-zero, sub_self, suc-sub-suc}
+use native.Mathlib.Nat.{zero-add, zero-sub, sub-zero, suc-sub-suc}
 use native.Mathlib.Numerals.{add-one}
 use native.Mathlib.Omega.{arith}
-use lib.ListN.{length, take, drop, set, replicate, length-replicate}
-use lib.Seq.{sets, sets-eq, length-take-le}
+use lib.ListN.{length, drop, set, replicate, length-replicate}
+use lib.Seq.{sets, sets-eq}
 use Rattle.scalars.specs.Mask.{padded}
 
 module _ {A : Type 0} where
@@ -31,12 +31,3 @@ module _ {A : Type 0} where
 
   pub fill_end : (out : List A) (i : ℕ) {all goal : List A} → all ≡ [] → sets out i all ≡ goal → out ≡ goal
   fill_end out i e left = sym (ap (sets out i) e) ∙ left
-
-  -- an array as long as what is put there
-  pub filled-whole : (n : ℕ) (b : A) (xs : List A) → n ≤ length xs → sets (replicate n b) 0 (take n xs) ≡ take n xs
-  filled-whole n b xs h =
-      let l : length (take n xs) ≡ n = length-take-le n xs h in
-      filled n b (take n xs) (omega arith)
-      ∙ ap (λ (k : ℕ). take n xs ++ replicate (n - k) b) l
-      ∙ ap (λ (k : ℕ). take n xs ++ replicate k b) (sub_self n)
-      ∙ append-nil (take n xs)

@@ -10,3 +10,4 @@ pub mod Fills
 pub mod Scalars
 pub mod Papers
 pub mod Prefixes
+pub mod HandedOn

@@ -34,16 +34,6 @@ module _ {A : Type 0} (d : A) (xs : List A) (n i : ℕ) (l : n ≤ length xs) wh
   pub ended : n ≤ i → drop i (take n xs) ≡ []
   ended h = drop_of_length-le (take n xs) (subst⁻¹ (λ (k : ℕ). k ≤ i) (length-take-le n xs l) h)
 
-  module _ (p : A → Bool) (left : every p (drop i (take n xs)) ≡ every p (take n xs)) where
-    pub every-fails : i < n → p (get_or xs i d) ≡ false → false ≡ every p (take n xs)
-    every-fails h e = sym (ap (every p) (next h) ∙ rw e) ∙ left
-
-    pub every-next : i < n → p (get_or xs i d) ≡ true → every p (drop (i + 1) (take n xs)) ≡ every p (take n xs)
-    every-next h e = sym (ap (every p) (next h) ∙ rw e) ∙ left
-
-    pub every-ends : n ≤ i → true ≡ every p (take n xs)
-    every-ends h = sym (ap (every p) (ended h)) ∙ left
-
 pub both_true : (a b : Bool) → both a b ≡ true → (a ≡ true) × (b ≡ true)
 both_true true b e = (refl, e)
 both_true false b e = let z : ◌≡◌ {A = ℕ} 0 1 = cc in absurd (omega arith)

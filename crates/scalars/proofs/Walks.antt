@@ -1,9 +1,15 @@
--- The law of every walk over set bits: from what `OneBitsIter::next` and `OneBit::number` promise to what a walk over the members of
+-- The laws of every walk over set bits: from what `OneBitsIter::next` and `OneBit::number` promise to what a walk over the members of
 -- a mask needs. `walked` and `walked-bits` are for a turn; `ended` and `ended-bits` for the end; `lowest` is for the
 -- first member alone. Assumes nothing.
+--
+-- Around a `for bit in OneBitsIter(mask)` the invariant says that what is done, followed by what is left, is the whole: what is left is
+-- `bits n l.bit-iterator.0`, or `select xs l.bit-iterator.0`. It begins with the mask, by `c.into_iter-bit-iterator.ensures.into_iter_gives`.
+-- A turn is `walked-bits n _ .. c.loop-bit.invariant.0 c.in-Some.ensures.steps.1 c.number.ensures`, whose `.numbers` are
+-- those of the turn before without the first; the end is `ended-bits _ .. n c.in-None.ensures.steps.1`. A call `OneBitsIter(mask).next()`
+-- by itself has the same steps.
 use mathlib.Core.Path.{◌≡◌, refl, sym, ap, ap₂, ◌∙◌, subst, subst⁻¹}
 use mathlib.Core.Bool.{Bool, true, false}
-use mathlib.Core.List.{List, [], ◌∷◌}
+use mathlib.Core.List.{List, [], ◌∷◌, map}
 use Prim.Native.Nat.{ℕ, zero, suc, ◌+◌, ◌-◌, ◌*◌, ◌/◌, ◌%◌, ◌^◌, ◌≤◌, ◌<◌}
 use native.Mathlib.Nat.{lt_of_lt_of_le, not-suc-le-zero, le_of_suc-le-suc, pow-suc, le_refl}
 use native.Mathlib.Omega.{arith}
@@ -14,11 +20,8 @@ use borrow.Author.Tests.{ltb-true, ltb-false}
 use lib.ListN.{length, get_or}
 use Rattle.scalars.specs.Mask.{select, sift, up_to, bits, head_or}
 use Rattle.scalars.specs.OneBits.{step_of}
-use Rattle.scalars.specs.Paper.{accepted, walk_paper}
-use Rattle.scalars.specs.declared.one_bits_iter.OneBit.{OneBit}
-use Rattle.scalars.specs.declared.one_bits_iter.OneBitsIter.{OneBitsIter}
-use Rattle.scalars.specs.declared.one_bits_iter.BitStep.{BitStep}
-use Rattle.scalars.specs.declared.one_bits_iter.BitStep.TheVariants.{Bit, Done}
+use Rattle.scalars.specs.Paper.{accepted}
+use Rattle.scalars.specs.Walk.{one_bit, one_bits}
 use Rattle.scalars.proofs.Masks.{gain, trailing_lt, trailing_part, select-turn, sift-turn}
 use Rattle.scalars.proofs.Bits.{bits-next, bits_none, bits-lowest, mask-bits, up_to-length, up_to-at}
 
@@ -42,6 +45,13 @@ step-some m q h =
 pub step-none : (m : ℕ) → m ≡ 0 → step_of (bits 64 m) ≡ accepted []
 step-none m e = ap (λ (x : ℕ). step_of (bits 64 x)) e ∙ ap step_of (bits_none 64)
 
+-- the same of what is still to come
+pub left-some : (m : ℕ) → 0 < m → m < 2 ^ 64 → one_bits (record { 0 = m }) ≡ one_bit (count_trailing_zeros 64 m) ∷ one_bits (record { 0 = m - 2 ^ count_trailing_zeros 64 m })
+left-some m q h = ap (map one_bit) (bits-next 64 64 m (le_refl 64) q h)
+
+pub left-none : (m : ℕ) → m ≡ 0 → one_bits (record { 0 = m }) ≡ []
+left-none m e = ap (λ (x : ℕ). map one_bit (bits 64 x)) e ∙ ap (map one_bit) (bits_none 64)
+
 -- a step to a bit: the word is not 0, and the bit is its lowest
 pub record Taken (m k b r : ℕ) : Type 0 where
   pub some : 0 < m
@@ -49,39 +59,38 @@ pub record Taken (m k b r : ℕ) : Type 0 where
   pub bit : b ≡ 2 ^ k
   pub rest : r ≡ m - 2 ^ k
 
-module _ (m : ℕ) {s : BitStep} (h : m < 2 ^ 64) where
-  pub taken : {b : OneBit} {r : OneBitsIter} {k : ℕ} → s ≡ Bit b r → walk_paper s ≡ step_of (bits 64 m) → k ≡ head_or 64 (bits 64 b.0)
-      → Taken m k b.0 r.0
-  taken {b} {r} {k} e n f = go (ltb 0 m) refl (sym (ap walk_paper e) ∙ n)
+module _ (m : ℕ) (h : m < 2 ^ 64) where
+  pub taken : {b r k : ℕ} → accepted (b ∷ r ∷ []) ≡ step_of (bits 64 m) → k ≡ head_or 64 (bits 64 b) → Taken m k b r
+  taken {b} {r} {k} p f = go (ltb 0 m) refl
     where
-      go : (x : Bool) → ltb 0 m ≡ x → accepted (b.0 ∷ r.0 ∷ []) ≡ step_of (bits 64 m) → Taken m k b.0 r.0
-      go true z p =
+      go : (x : Bool) → ltb 0 m ≡ x → Taken m k b r
+      go true z =
           let q : 0 < m = ltb-true 0 m z in
           let t : count_trailing_zeros 64 m < 64 = trailing_lt 64 64 m (le_refl 64) q h in
           let i = p ∙ step-some m q h in
-          let bit : b.0 ≡ 2 ^ count_trailing_zeros 64 m = cc in
-          let rest : r.0 ≡ m - 2 ^ count_trailing_zeros 64 m = cc in
+          let bit : b ≡ 2 ^ count_trailing_zeros 64 m = cc in
+          let rest : r ≡ m - 2 ^ count_trailing_zeros 64 m = cc in
           let number : k ≡ count_trailing_zeros 64 m =
           f ∙ ap (λ (x : ℕ). head_or 64 (bits 64 x)) bit ∙ bits-lowest 64 (2 ^ count_trailing_zeros 64 m) (pow-lt t) ∙ trailing_bit 64 (count_trailing_zeros 64 m) t in
           record { some = q; number = number ∙ sym (bits-lowest 64 m h); bit = rw number bit; rest = rw number rest }
-      go false z p =
+      go false z =
           let i = p ∙ step-none m (omega (arith, ltb-false 0 m z)) in
           let z : ◌≡◌ {A = ℕ} 0 1 = cc in
           absurd (omega arith)
 
   -- at the end of a walk nothing is left
-  pub ended : s ≡ Done → walk_paper s ≡ step_of (bits 64 m) → m ≡ 0
-  ended e n = go (ltb 0 m) refl
+  pub ended : accepted [] ≡ step_of (bits 64 m) → m ≡ 0
+  ended n = go (ltb 0 m) refl
     where
       go : (x : Bool) → ltb 0 m ≡ x → m ≡ 0
       go true z =
-          let p = sym (ap walk_paper e) ∙ n ∙ step-some m (ltb-true 0 m z) h in
+          let p = n ∙ step-some m (ltb-true 0 m z) h in
           let z : ◌≡◌ {A = ℕ} 0 1 = cc in
           absurd (omega arith)
       go false z = omega (arith, ltb-false 0 m z)
 
-  pub ended-bits : (k : ℕ) → s ≡ Done → walk_paper s ≡ step_of (bits 64 m) → bits k m ≡ []
-  ended-bits k e n = ap (bits k) (ended e n) ∙ bits_none k
+  pub ended-bits : (k : ℕ) → accepted [] ≡ step_of (bits 64 m) → bits k m ≡ []
+  ended-bits k n = ap (bits k) (ended n) ∙ bits_none k
 
 -- one turn of a walk over the members of a mask m: the lowest member x and its number k, its bit b, and the mask r that is left
 pub record Walked {A : Type 0} (x : A) (xs : List A) (m k b r : ℕ) : Type 0 where
@@ -107,10 +116,10 @@ lowest d xs m l q h e =
       step = λ p. sift-turn p d xs 64 m l q h;
     }
 
-pub walked : {A : Type 0} (d : A) (xs : List A) (m : ℕ) {s : BitStep} {b : OneBit} {r : OneBitsIter} {k : ℕ} → length xs ≤ 64 → m < 2 ^ length xs
-    → s ≡ Bit b r → walk_paper s ≡ step_of (bits 64 m) → k ≡ head_or 64 (bits 64 b.0) → Walked (get_or xs k d) xs m k b.0 r.0
-walked d xs m l h e n f =
-    let t = taken m (lt_of_lt_of_le h (pow_mono l)) e n f in
+pub walked : {A : Type 0} (d : A) (xs : List A) (m : ℕ) {b r k : ℕ} → length xs ≤ 64 → m < 2 ^ length xs
+    → accepted (b ∷ r ∷ []) ≡ step_of (bits 64 m) → k ≡ head_or 64 (bits 64 b) → Walked (get_or xs k d) xs m k b r
+walked d xs m l h n f =
+    let t = taken m (lt_of_lt_of_le h (pow_mono l)) n f in
     rw (t.bit, t.rest) (lowest d xs m l t.some h t.number)
 
 -- the same of the numbers of a mask's bits
@@ -121,16 +130,16 @@ pub record WalkedBits (n m k b r : ℕ) : Type 0 where
   pub less : r < 2 ^ n
   pub numbers : bits n m ≡ k ∷ bits n r
 
-pub walked-bits : (n m : ℕ) {s : BitStep} {b : OneBit} {r : OneBitsIter} {k : ℕ} → n ≤ 64 → m < 2 ^ n
-    → s ≡ Bit b r → walk_paper s ≡ step_of (bits 64 m) → k ≡ head_or 64 (bits 64 b.0) → WalkedBits n m k b.0 r.0
+pub walked-bits : (n m : ℕ) {b r k : ℕ} → n ≤ 64 → m < 2 ^ n
+    → accepted (b ∷ r ∷ []) ≡ step_of (bits 64 m) → k ≡ head_or 64 (bits 64 b) → WalkedBits n m k b r
 unfolding bits
-walked-bits n m {b = b} {r = r} {k = k} l h e p f =
-    let t = walked 0 (up_to n) m (subst⁻¹ (λ (x : ℕ). x ≤ 64) (up_to-length n) l) (subst⁻¹ (λ (x : ℕ). m < 2 ^ x) (up_to-length n) h) e p f in
+walked-bits n m {b} {r} {k} l h p f =
+    let t = walked 0 (up_to n) m (subst⁻¹ (λ (x : ℕ). x ≤ 64) (up_to-length n) l) (subst⁻¹ (λ (x : ℕ). m < 2 ^ x) (up_to-length n) h) p f in
     let i : k < n = subst (λ (x : ℕ). k < x) (up_to-length n) t.below in
     record {
       below = i;
       apart = t.apart;
       some = t.some;
-      less = subst (λ (x : ℕ). r.0 < 2 ^ x) (up_to-length n) t.less;
-      numbers = t.members ∙ ap (λ (j : ℕ). j ∷ bits n r.0) (up_to-at n k i);
+      less = subst (λ (x : ℕ). r < 2 ^ x) (up_to-length n) t.less;
+      numbers = t.members ∙ ap (λ (j : ℕ). j ∷ bits n r) (up_to-at n k i);
     }

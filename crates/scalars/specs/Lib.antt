@@ -5,3 +5,4 @@ pub mod Refusal
 pub mod OneBits
 pub mod Scalar
 pub mod Paper
+pub mod Walk

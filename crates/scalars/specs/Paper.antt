@@ -1,18 +1,12 @@
 -- 'What each answer must determine': the number, the place and the values that the paper gives to each case of an answer. Accepted is
 -- number 0 at place 0; a value that a refusal leaves out is `unused`, and a set is the empty one.
-use Rattle.std.specs.Prelude.{List, [], ◌∷◌, ◌++◌, ℕ, get_or}
+use Rattle.std.specs.Prelude.{Bool, List, [], ◌∷◌, ℕ, get_or, replicate, Option, Some, None, Result, Ok, Err}
+use Rattle.scalars.specs.Mask.{digit}
 use Rattle.scalars.specs.Refusal.{numbered}
 use Rattle.scalars.specs.declared.refusal.Refusal.{Refusal}
-use Rattle.scalars.specs.declared.answer.Test.{Test}
-use Rattle.scalars.specs.declared.answer.Test.TheVariants as test
-use Rattle.scalars.specs.declared.answer.Verdict.{Verdict}
-use Rattle.scalars.specs.declared.answer.Verdict.TheVariants as verdict
-use Rattle.scalars.specs.declared.answer.CountAnswer.{CountAnswer}
-use Rattle.scalars.specs.declared.answer.CountAnswer.TheVariants as count
-use Rattle.scalars.specs.declared.scalar_set.ScalarAnswer.{ScalarAnswer}
-use Rattle.scalars.specs.declared.scalar_set.ScalarAnswer.TheVariants as scalar
-use Rattle.scalars.specs.declared.one_bits_iter.BitStep.{BitStep}
-use Rattle.scalars.specs.declared.one_bits_iter.BitStep.TheVariants as walk
+use Rattle.scalars.specs.declared.scalar_set.Scalar.{Scalar}
+use Rattle.scalars.specs.declared.one_bits_iter.OneBit.{OneBit}
+use Rattle.scalars.specs.declared.one_bits_iter.OneBitsIter.{OneBitsIter}
 use Rattle.scalars.specs.declared.one_bits_iter.Members.{Members}
 
 -- the values of an answer that is accepted; the number, the place and the values of one that is refused
@@ -52,37 +46,32 @@ abbrev pub when_accepted : Paper → (List ℕ → Paper) → List ℕ → Paper
 when_accepted (accepted vs) next ws = next vs
 when_accepted (refusal n p vs) next ws = refusal n p ws
 
--- an array that stands beside the answer: its entries behind the answer's values
-abbrev pub beside : Paper → List ℕ → Paper
-beside (accepted vs) ws = accepted (vs ++ ws)
-beside (refusal n p vs) ws = refusal n p (vs ++ ws)
+-- an answer's values, or its refusal with these values
+abbrev pub answer_paper : {A : Type 0} → (A → List ℕ) → List ℕ → Result A Refusal → Paper
+answer_paper vs ws (Ok x) = accepted (vs x)
+answer_paper vs ws (Err why) = refused why ws
 
--- ---- one value: a yes (1) or a no (0), a count, a scalar
+-- ---- no value, or one: a yes (1) or a no (0), a count, a scalar
 
-abbrev pub verdict_paper : Verdict → Paper
-verdict_paper verdict.Accepted = accepted []
-verdict_paper (verdict.Refused why) = refused why []
+abbrev pub verdict_paper : Result Unit Refusal → Paper
+verdict_paper = answer_paper (λ u. []) []
 
-abbrev pub test_paper : Test → Paper
-test_paper test.Yes = accepted (1 ∷ [])
-test_paper test.No = accepted (0 ∷ [])
-test_paper (test.Refused why) = refused why (unused ∷ [])
+abbrev pub test_paper : Result Bool Refusal → Paper
+test_paper = answer_paper (λ b. digit b ∷ []) (unused ∷ [])
 
-abbrev pub count_paper : CountAnswer → Paper
-count_paper (count.Count n) = accepted (n ∷ [])
-count_paper (count.Refused why) = refused why (unused ∷ [])
+abbrev pub count_paper : Result ℕ Refusal → Paper
+count_paper = answer_paper (λ n. n ∷ []) (unused ∷ [])
 
-abbrev pub scalar_paper : ScalarAnswer → Paper
-scalar_paper (scalar.Scalar s) = accepted (s.0 ∷ [])
-scalar_paper (scalar.Refused why) = refused why (unused ∷ [])
+abbrev pub scalar_paper : Result Scalar Refusal → Paper
+scalar_paper = answer_paper (λ s. s.0 ∷ []) (unused ∷ [])
 
 -- ---- a step of a walk: the bit's mask and the bits after it, or nothing
 
-abbrev pub walk_paper : BitStep → Paper
-walk_paper (walk.Bit bit rest) = accepted (bit.0 ∷ rest.0 ∷ [])
-walk_paper walk.Done = accepted []
+abbrev pub walk_paper : Option OneBit → OneBitsIter → Paper
+walk_paper (Some bit) rest = accepted (bit.0 ∷ rest.0 ∷ [])
+walk_paper None rest = accepted []
 
 -- ---- the members of a set: how many, and the 16 entries
 
-abbrev pub members_paper : Members → Paper
-members_paper m = beside (count_paper m.answer) m.numbers
+abbrev pub members_paper : Result Members Refusal → Paper
+members_paper = answer_paper (λ m. m.count ∷ m.numbers) (replicate 17 unused)

@@ -1,5 +1,6 @@
 -- 'Answers by number', and document 02's requests: the number and the place of each refusal.
-use Rattle.std.specs.Prelude.{ℕ}
+use Rattle.std.specs.Prelude.{ℕ, List, ◌++◌, codes}
+use Rattle.std.specs.Fmt.{decimal}
 use Rattle.scalars.specs.declared.refusal.Refusal.{Refusal}
 use Rattle.scalars.specs.declared.refusal.Refusal.TheVariants.{EmptySet, SeveralConstructors, TooMany, NoSuchArgument, WrongCount, WrongShape, Unknown, IllFormed, TooLarge, NoRoom, NothingToCombine, NoConsensus, NoConclusion, UnknownRun, Misplaced, WrongNumber, MeasuredAbstract}
 
@@ -22,3 +23,7 @@ numbered (UnknownRun p) = (14, p)
 numbered (Misplaced p) = (15, p)
 numbered (WrongNumber p) = (16, p)
 numbered (MeasuredAbstract p) = (17, p)
+
+-- as programs print a refusal: the number, a space, the place
+abbrev pub printed : Refusal → List ℕ
+printed why = decimal (numbered why).0 ++ (codes " " ++ decimal (numbered why).1)

@@ -3,8 +3,13 @@
 // The crate panics, asserts or hands out an index; here each of these is an answer with a number and a place. A case that has a
 // place of its own carries it: a byte offset, an index, or the bytes that are needed. The other cases stand at place 0.
 
-ghost use Rattle.std.specs.Prelude.{◌≡◌};
-ghost use Rattle.scalars.specs.Refusal.{numbered};
+ghost use Rattle.std.specs.Prelude.{◌≡◌, Some};
+ghost use Rattle.scalars.specs.Refusal.{numbered, printed};
+
+use std::fmt;
+
+// What a field or an entry not in use holds.
+pub const UNUSED: u8 = 255;
 
 #[derive(Clone, Copy)]
 pub enum Refusal {
@@ -75,23 +80,32 @@ impl Refusal {
         ensures { result ≡ (numbered self).1 }
     {
         match self {
-            Refusal::EmptySet(at) => at,
-            Refusal::SeveralConstructors => 0,
-            Refusal::TooMany => 0,
-            Refusal::NoSuchArgument(at) => at,
-            Refusal::WrongCount(at) => at,
-            Refusal::WrongShape(at) => at,
-            Refusal::Unknown(at) => at,
-            Refusal::IllFormed(at) => at,
-            Refusal::TooLarge(at) => at,
-            Refusal::NoRoom(at) => at,
-            Refusal::NothingToCombine => 0,
-            Refusal::NoConsensus(at) => at,
-            Refusal::NoConclusion => 0,
-            Refusal::UnknownRun(at) => at,
-            Refusal::Misplaced(at) => at,
-            Refusal::WrongNumber(at) => at,
-            Refusal::MeasuredAbstract(at) => at,
+            Refusal::EmptySet(at)
+            | Refusal::NoSuchArgument(at)
+            | Refusal::WrongCount(at)
+            | Refusal::WrongShape(at)
+            | Refusal::Unknown(at)
+            | Refusal::IllFormed(at)
+            | Refusal::TooLarge(at)
+            | Refusal::NoRoom(at)
+            | Refusal::NoConsensus(at)
+            | Refusal::UnknownRun(at)
+            | Refusal::Misplaced(at)
+            | Refusal::WrongNumber(at)
+            | Refusal::MeasuredAbstract(at) => at,
+            Refusal::SeveralConstructors
+            | Refusal::TooMany
+            | Refusal::NothingToCombine
+            | Refusal::NoConclusion => 0,
         }
+    }
+}
+
+// The number and the place, as programs print a refusal.
+impl fmt::Display for Refusal {
+    ghost output = { λ why. Some (printed why) };
+
+    fn fmt<W: fmt::Write>(&self, f: &mut fmt::Formatter<W>) -> fmt::Result {
+        write!(f, "{} {}", self.number(), self.place())
     }
 }

@@ -10,23 +10,16 @@ ghost use Rattle.scalars.specs.OneBits.{members_within};
 ghost use Rattle.scalars.specs.Paper.{scalar_paper, members_paper};
 ghost use Rattle.scalars.specs.Scalar.{most_general, member, convertible_from, singleton_of, named_sets};
 
-use crate::one_bits_iter::{Members, members_of, no_members};
+use crate::one_bits_iter::{Members, members_within};
 use crate::refusal::Refusal;
 
 // A set of scalars: bit k stands for the scalar numbered k.
 #[derive(Clone, Copy)]
 pub struct ScalarSet(pub u16);
 
-// A scalar by its number, 0 to 11.
-#[derive(Clone, Copy)]
+// A scalar by its number, 0 to 11: any other is refused, or required away in a private function.
+#[derive(Clone, Copy, PartialEq, Eq)]
 pub struct Scalar(pub u8);
-
-// The answer where one scalar is asked for.
-#[derive(Clone, Copy)]
-pub enum ScalarAnswer {
-    Scalar(Scalar),
-    Refused(Refusal),
-}
 
 // The sets that `scalar_set.rs` names.
 #[derive(Clone, Copy)]
@@ -133,28 +126,28 @@ impl ScalarSet {
     pub fn singleton(scalar: Scalar) -> ScalarSet
         ensures { result.0 ≡ singleton_of scalar.0 }
     {
-        let k = scalar.0;
-        if Scalar::COUNT <= k {
-            return ScalarSet::EMPTY;
+        if scalar.0 < Scalar::COUNT {
+            ScalarSet(1 << scalar.0)
+        } else {
+            ScalarSet::EMPTY
         }
-        ScalarSet(1u16 << k)
     }
 
     // The scalars that this one converts to, itself among them; none for an unknown number, as in the crate.
     pub fn convertible_from(scalar: Scalar) -> ScalarSet
         ensures { result.0 ≡ convertible_from scalar.0 }
     {
-        let k = scalar.0;
-        if k == Scalar::ABSTRACT_INT.0 {
-            return ScalarSet::NUMERIC;
+        if scalar == Scalar::ABSTRACT_INT {
+            ScalarSet::NUMERIC
+        } else if scalar == Scalar::ABSTRACT_FLOAT {
+            ScalarSet::FLOAT
+        } else {
+            ScalarSet::singleton(scalar)
         }
-        if k == Scalar::ABSTRACT_FLOAT.0 {
-            return ScalarSet::FLOAT;
-        }
-        ScalarSet::singleton(scalar)
     }
 
-    // The scalars that are in both sets: the and of their masks.
+    // The scalars that are in both sets: the and of their masks. `ConstructorSet` has its own, since each mask has a type of its own, and one
+    // line in a trait would be no shorter.
     pub fn meet(self, other: ScalarSet) -> ScalarSet
         ensures { result.0 ≡ bit_and self.0 other.0 }
     {
@@ -165,36 +158,28 @@ impl ScalarSet {
     pub fn contains(self, scalar: Scalar) -> bool
         ensures { result ≡ member scalar.0 self.0 }
     {
-        let k = scalar.0;
-        if Scalar::COUNT <= k {
-            return false;
-        }
-        (self.0 >> k) % 2 == 1
+        scalar.0 < Scalar::COUNT && (self.0 >> scalar.0) % 2 == 1
     }
 
-    // The lowest member. Refused 7 for an unknown bit, then 1 for the empty set.
-    pub fn most_general_scalar(self) -> ScalarAnswer
+    // The lowest member. Refused 7 for an unknown bit, then 1 for the empty set: two tests, of a mask of its own.
+    pub fn most_general_scalar(self) -> Result<Scalar, Refusal>
         ensures { scalar_paper result ≡ most_general self.0 }
     {
         let mask = self.0;
         if ScalarSet::ALL.0 < mask {
-            return ScalarAnswer::Refused(Refusal::Unknown(0));
+            return Err(Refusal::Unknown(0));
         }
         if mask == 0 {
-            return ScalarAnswer::Refused(Refusal::EmptySet(0));
+            return Err(Refusal::EmptySet(0));
         }
-        ScalarAnswer::Scalar(Scalar(u16::trailing_zeros(mask) as u8))
+        Ok(Scalar(mask.trailing_zeros() as u8))
     }
 
     // The members' numbers, lowest first. Refused 7 for an unknown bit.
-    pub fn members(self) -> Members
+    pub fn members(self) -> Result<Members, Refusal>
         ensures { members_paper result ≡ members_within scalar_count self.0 }
     {
-        let mask = self.0;
-        if ScalarSet::ALL.0 < mask {
-            return no_members();
-        }
-        members_of(mask)
+        members_within(self.0, ScalarSet::ALL.0)
     }
 
     // Each set that has a name of its own.

@@ -1,6 +1,5 @@
 -- Laws of the definitions of this crate, which the proofs of its functions cite; that an answer is determined by its paper; that what is
 -- made fits; and how long a text is.
-mod LentFronts
 mod ReaderSteps
 mod Stores
 mod TextReadings

@@ -1,7 +1,8 @@
 -- The definition of reading a text, by the tokens and names that stand there: one law for each way through `read_node`, `read_measured`,
 -- `read_brackets` and `read_arguments`. Each says what is answered and written, so that the functions' proofs only cite it. Assumes nothing.
-use mathlib.Core.Path.{◌≡◌, refl, sym, ap, ap₂, ◌∙◌, subst, subst⁻¹}
+use mathlib.Core.Path.{◌≡◌, refl, sym, ap, ap₂, ◌∙◌, subst⁻¹}
 use mathlib.Core.Bool.{Bool, true, false}
+use mathlib.Core.Logic.{◌⊎◌, ⊎_elim}
 use mathlib.Core.List.{List, [], ◌∷◌, append-nil}
 use Prim.Native.Nat.{ℕ, zero, suc, ◌+◌, ◌*◌, ◌≤◌, ◌<◌}
 use native.Mathlib.Omega.{arith}
@@ -11,21 +12,24 @@ use lib.Dec.{ltb}
 use Rattle.scalars.specs.Mask.{choose}
 use lib.ListN.{length, set, length-append}
 use lib.Seq.{sets, set_comm}
-use Rattle.scalars.specs.Refusal.{numbered}
+use Rattle.std.specs.Prelude.{Result, Ok, Err, Some}
 use Rattle.scalars.specs.declared.refusal.Refusal.{Refusal}
 use Rattle.scalars.specs.declared.refusal.Refusal.TheVariants.{TooLarge, UnknownRun, Misplaced}
 use Rattle.types.specs.declared.operand.Operand.{Operand}
-use Rattle.names.specs.Names.{Named, a_type, a_function, unknown, measured_name, same}
+use Rattle.names.specs.Names.{Named, a_type, a_function, unknown, measured_name, same, named_paper}
+use Rattle.names.specs.WordPaper.{word_paper}
+use Rattle.names.specs.declared.index.Word.{Word}
+use Rattle.names.specs.declared.index.Word.TheVariants.{TypeName, FunctionName}
+use Rattle.names.proofs.WordPapers.{type_is, function-is}
 use Rattle.expressions.specs.Tree.{Tree, Trees, leaf, call, none, more, count, bytes_of, bytes_of_all, leaf_tag, call_tag, measured_tag, most_nodes, deepest}
 use Rattle.expressions.specs.Reading.{Reading, done, refused, and_then, demand}
 use Rattle.expressions.specs.private.Step.{levels_left}
 use Rattle.text.specs.declared.token.Token.{Token}
 use Rattle.text.specs.declared.token.Token.TheVariants.{Open, Close, Comma, Run, End}
-use Rattle.text.specs.declared.reader.Step.{Step}
-use Rattle.text.specs.declared.reader.Step.TheVariants.{Past, Fault}
+use Rattle.text.specs.declared.reader.Past.{Past}
 use Rattle.text.specs.Tokens.{next, place}
 use Rattle.text.specs.Reading.{misplaced, on_run, on_open, on_close, on_more, args_at, brackets_at, word_at, run_at, type_at, measured_at, run_node, node_at}
-use Rattle.text.specs.private.ReadStep.{LeafRoom, leaf_put, leaf_step, Went, NodeRead, ArgsRead}
+use Rattle.text.specs.private.ReadStep.{LeafRoom, leaf_put, leaf_past, Went, NodeRead, ArgsRead}
 use Rattle.text.proofs.Stores.{sets_append}
 use Rattle.text.proofs.Tokens.{placed}
 
@@ -90,33 +94,19 @@ more-misplaced (Open p) h k l = refl
 more-misplaced (Run p e) h k l = refl
 more-misplaced (End p) h k l = refl
 
--- ---- what was read, where an answer is no fault, and the definition's own fault, where it is one
+-- ---- a word that is known to be a type's, or a function's
 
-module _ (s : List ℕ) (at n m : ℕ) (d d' : List ℕ) where
-  pub went_node : (x : Reading Tree) (r : Step) → NodeRead s at n m d d' x r → (behind nodes made k : ℕ) → r ≡ Past behind nodes made k
-      → Went bytes_of (λ e. 1) s at n m d d' x behind nodes made k
-  unfolding NodeRead
-  went_node x r read behind nodes made k eq = subst (NodeRead s at n m d d' x) eq read
+pub type_named : (w : Word) (x : Named) → word_paper (Some w) ≡ named_paper x → (t : ℕ) → w ≡ TypeName t → x ≡ a_type t
+type_named w x e t is = type_is t x (sym (ap (λ w. word_paper (Some w)) is) ∙ e)
 
-  pub fault_node : (x : Reading Tree) (r : Step) → NodeRead s at n m d d' x r → (why : Refusal) → r ≡ Fault why
-      → x ≡ refused (numbered why).0 (numbered why).1
-  unfolding NodeRead
-  fault_node x r read why eq = subst (NodeRead s at n m d d' x) eq read
+pub function_named : (w : Word) (x : Named) → word_paper (Some w) ≡ named_paper x → (f : ℕ) → w ≡ FunctionName f → x ≡ a_function f
+function_named w x e f is = function-is f x (sym (ap (λ w. word_paper (Some w)) is) ∙ e)
 
-  pub went-args : (x : Reading Trees) (r : Step) → ArgsRead s at n m d d' x r → (behind nodes made k : ℕ) → r ≡ Past behind nodes made k
-      → Went bytes_of_all count s at n m d d' x behind nodes made k
-  unfolding ArgsRead
-  went-args x r read behind nodes made k eq = subst (ArgsRead s at n m d d' x) eq read
-
-  pub fault-args : (x : Reading Trees) (r : Step) → ArgsRead s at n m d d' x r → (why : Refusal) → r ≡ Fault why
-      → x ≡ refused (numbered why).0 (numbered why).1
-  unfolding ArgsRead
-  fault-args x r read why eq = subst (ArgsRead s at n m d d' x) eq read
+-- ---- what is read
 
 -- what is read from a later offset on, where the definition hands on to there
 went-later : {A : Type 0} {bytes : A → List ℕ} {many : A → ℕ} {s : List ℕ} {at later n m : ℕ} {d d' : List ℕ} {x y : Reading A}
-    {behind nodes made k : ℕ} → x ≡ y → at ≤ later → Went bytes many s later n m d d' y behind nodes made k
-    → Went bytes many s at n m d d' x behind nodes made k
+    {p : Past} → x ≡ y → at ≤ later → Went bytes many s later n m d d' y p → Went bytes many s at n m d d' x p
 went-later eq h w = record {
   tree = w.tree;
   is = eq ∙ w.is;
@@ -131,8 +121,8 @@ went-later eq h w = record {
 }
 
 -- a leaf is read, and its bytes are written
-leaf-read : (s : List ℕ) (at n m e : ℕ) (d d' : List ℕ) (o : Operand) (x : Reading Tree) (r : Step) → x ≡ done (leaf o) e (n + 1)
-    → at < e → e ≤ length s → LeafRoom n m → r ≡ leaf_step e n m → d' ≡ sets d m (bytes_of (leaf o)) → NodeRead s at n m d d' x r
+leaf-read : (s : List ℕ) (at n m e : ℕ) (d d' : List ℕ) (o : Operand) (x : Reading Tree) (r : Result Past Refusal) → x ≡ done (leaf o) e (n + 1)
+    → at < e → e ≤ length s → LeafRoom n m → r ≡ Ok (leaf_past e n m) → d' ≡ sets d m (bytes_of (leaf o)) → NodeRead s at n m d d' x r
 unfolding NodeRead bytes_of
 leaf-read s at n m e d d' o x r is moves within h eq w = subst⁻¹ (NodeRead s at n m d d' x) eq (record {
   tree = leaf o;
@@ -164,7 +154,7 @@ module _ (look : List ℕ → Named) (s : List ℕ) where
 
   module _ (at n m : ℕ) (d d' : List ℕ) where
     pub no_type : (t : Token) (p : ℕ) → t ≡ next s at → NoRun t → p ≡ place t
-        → NodeRead s at n m d d' (measured_at look s at n) (Fault (Misplaced p))
+        → NodeRead s at n m d d' (measured_at look s at n) (Err (Misplaced p))
     unfolding measured_at NodeRead
     no_type t p e h q =
         let k : ℕ → ℕ → Reading Tree = λ p e. type_at look s p e n (look (run_at look s p e)) in
@@ -177,15 +167,15 @@ module _ (look : List ℕ → Named) (s : List ℕ) where
           sym (ap (λ t. on_run t (λ p e. type_at look s p e n (look (run_at look s p e)))) run) ∙ ap (type_at look s p e n) is
 
       pub function_type : (f : ℕ) → look (run_at look s p e) ≡ a_function f
-          → NodeRead s at n m d d' (measured_at look s at n) (Fault (Misplaced p))
+          → NodeRead s at n m d d' (measured_at look s at n) (Err (Misplaced p))
       unfolding type_at NodeRead
       function_type f is = behind-measured (a_function f) is
 
-      pub unknown_type : look (run_at look s p e) ≡ unknown → NodeRead s at n m d d' (measured_at look s at n) (Fault (Misplaced p))
+      pub unknown_type : look (run_at look s p e) ≡ unknown → NodeRead s at n m d d' (measured_at look s at n) (Err (Misplaced p))
       unfolding type_at NodeRead
       unknown_type is = behind-measured unknown is
 
-      pub measured_type : (t : ℕ) → look (run_at look s p e) ≡ a_type t → LeafRoom n m → (r : Step) → r ≡ leaf_step e n m
+      pub measured_type : (t : ℕ) → look (run_at look s p e) ≡ a_type t → LeafRoom n m → (r : Result Past Refusal) → r ≡ Ok (leaf_past e n m)
           → d' ≡ leaf_put d m measured_tag t → NodeRead s at n m d d' (measured_at look s at n) r
       unfolding type_at bytes_of
       measured_type t is h r eq w =
@@ -227,22 +217,26 @@ module _ (look : List ℕ → Named) (s : List ℕ) where
 
   module _ (at n m depth : ℕ) (d d' : List ℕ) where
     pub no_run : (t : Token) (p : ℕ) → t ≡ next s at → NoRun t → p ≡ place t
-        → NodeRead s at n m d d' (node_at look s (levels_left depth) at n) (Fault (Misplaced p))
+        → NodeRead s at n m d d' (node_at look s (levels_left depth) at n) (Err (Misplaced p))
     unfolding NodeRead
     no_run t p e h q = stray at n t e h (levels_left depth) ∙ ap (refused 15) (sym q)
 
     module _ (p e : ℕ) (run : Run p e ≡ next s at) where
-      pub too_many : most_nodes ≤ n → NodeRead s at n m d d' (node_at look s (levels_left depth) at n) (Fault (TooLarge p))
+      too_many : most_nodes ≤ n → NodeRead s at n m d d' (node_at look s (levels_left depth) at n) (Err (TooLarge p))
       unfolding NodeRead
       too_many h = many at n p e run (levels_left depth) h
 
-      pub too_deep : deepest < depth → NodeRead s at n m d d' (node_at look s (levels_left depth) at n) (Fault (TooLarge p))
+      too_deep : deepest < depth → NodeRead s at n m d d' (node_at look s (levels_left depth) at n) (Err (TooLarge p))
       unfolding NodeRead
       too_deep h = let z : levels_left depth ≡ 0 = omega arith in ap (λ l. node_at look s l at n) z ∙ no_level at n p e run
 
+      pub too_large : (most_nodes ≤ n) ⊎ ((n < most_nodes) × (deepest < depth))
+          → NodeRead s at n m d d' (node_at look s (levels_left depth) at n) (Err (TooLarge p))
+      too_large = ⊎_elim too_many (λ h. too_deep h.1)
+
       module _ (few : n < most_nodes) (low : depth ≤ deepest) where
         -- the first run is `measured`
-        pub measured_node : {found : Bool} → found ≡ same (run_at look s p e) measured_name → found ≡ true → (r : Step)
+        pub measured_node : {found : Bool} → found ≡ same (run_at look s p e) measured_name → found ≡ true → (r : Result Past Refusal)
             → NodeRead s e n m d d' (measured_at look s e n) r → NodeRead s at n m d d' (node_at look s (levels_left depth) at n) r
         unfolding NodeRead run_node
         measured_node test is = go
@@ -252,9 +246,9 @@ module _ (look : List ℕ → Named) (s : List ℕ) where
                 ∙ ap (λ b. choose b (measured_at look s e n)
                 (word_at look s (node_at look s (levels_left (depth + 1))) p e n (look (run_at look s p e)))) (sym test ∙ is)
 
-            go : (r : Step) → NodeRead s e n m d d' (measured_at look s e n) r → NodeRead s at n m d d' (node_at look s (levels_left depth) at n) r
-            go (Fault why) x = begun ∙ x
-            go (Past behind nodes made number) x = let q = placed s at run in went-later begun (omega arith) x
+            go : (r : Result Past Refusal) → NodeRead s e n m d d' (measured_at look s e n) r → NodeRead s at n m d d' (node_at look s (levels_left depth) at n) r
+            go (Err why) x = begun ∙ x
+            go (Ok p) x = let q = placed s at run in went-later begun (omega arith) x
 
         -- it is not
         module _ {found : Bool} (test : found ≡ same (run_at look s p e) measured_name) (other : found ≡ false) where
@@ -266,11 +260,11 @@ module _ (look : List ℕ → Named) (s : List ℕ) where
               ∙ ap₂ (λ b w. choose b (measured_at look s e n) (word_at look s (node_at look s (levels_left (depth + 1))) p e n w)) (sym test ∙ other) is
 
           pub unknown_node : look (run_at look s p e) ≡ unknown
-              → NodeRead s at n m d d' (node_at look s (levels_left depth) at n) (Fault (UnknownRun p))
+              → NodeRead s at n m d d' (node_at look s (levels_left depth) at n) (Err (UnknownRun p))
           unfolding word_at NodeRead
           unknown_node is = worded unknown is
 
-          pub leaf_node : (t : ℕ) → look (run_at look s p e) ≡ a_type t → m ≤ 3 * n → (r : Step) → r ≡ leaf_step e n m
+          pub leaf_node : (t : ℕ) → look (run_at look s p e) ≡ a_type t → m ≤ 3 * n → (r : Result Past Refusal) → r ≡ Ok (leaf_past e n m)
               → d' ≡ leaf_put d m leaf_tag t → NodeRead s at n m d d' (node_at look s (levels_left depth) at n) r
           unfolding word_at bytes_of
           leaf_node t is room r eq w =
@@ -286,18 +280,17 @@ module _ (look : List ℕ → Named) (s : List ℕ) where
             unfolding word_at
             called = worded (a_function f) is
 
-            pub call-fault : (r : Step) (why : Refusal) → ArgsRead s e (n + 1) (m + 3) d b inner r → r ≡ Fault why
-                → NodeRead s at n m d d' (node_at look s (levels_left depth) at n) (Fault why)
+            pub call-fault : (why : Refusal) → ArgsRead s e (n + 1) (m + 3) d b inner (Err why)
+                → NodeRead s at n m d d' (node_at look s (levels_left depth) at n) (Err why)
             unfolding NodeRead ArgsRead
-            call-fault r why read eq =
-                called ∙ ap (λ x. and_then x (λ es. done (call f es))) (fault-args s e (n + 1) (m + 3) d b inner r read why eq)
+            call-fault why read = called ∙ ap (λ x. and_then x (λ es. done (call f es))) read
 
-            pub call_node : (r : Step) (behind nodes made k : ℕ) → ArgsRead s e (n + 1) (m + 3) d b inner r → r ≡ Past behind nodes made k
-                → (b₁ b₂ : List ℕ) → b₁ ≡ set b m call_tag → b₂ ≡ set b₁ (m + 1) f → d' ≡ set b₂ (m + 2) k
-                → NodeRead s at n m d d' (node_at look s (levels_left depth) at n) (Past behind nodes made 1)
+            pub call_node : (o : Past) → ArgsRead s e (n + 1) (m + 3) d b inner (Ok o)
+                → (b₁ b₂ : List ℕ) → b₁ ≡ set b m call_tag → b₂ ≡ set b₁ (m + 1) f → d' ≡ set b₂ (m + 2) o.count
+                → NodeRead s at n m d d' (node_at look s (levels_left depth) at n)
+                (Ok (record { at = o.at; nodes = o.nodes; made = o.made; count = 1 }))
             unfolding bytes_of NodeRead ArgsRead
-            call_node r behind nodes made k read eq b₁ b₂ u v w =
-                let x = went-args s e (n + 1) (m + 3) d b inner r read behind nodes made k eq in
+            call_node o x b₁ b₂ u v w =
                 let q = placed s at run in
                 record {
                   tree = call f x.tree;
@@ -306,8 +299,8 @@ module _ (look : List ℕ → Named) (s : List ℕ) where
                   made-is = omega (arith, x.made-is);
                   written =
                       w
-                      ∙ ap (λ l. set l (m + 2) k) (v ∙ ap (λ l. set l (m + 1) f) (u ∙ ap (λ l. set l m call_tag) x.written))
-                      ∙ call-written d m f k (bytes_of_all x.tree)
+                      ∙ ap (λ l. set l (m + 2) o.count) (v ∙ ap (λ l. set l (m + 1) f) (u ∙ ap (λ l. set l m call_tag) x.written))
+                      ∙ call-written d m f o.count (bytes_of_all x.tree)
                       ∙ ap (λ k. sets d m (call_tag ∷ f ∷ k ∷ bytes_of_all x.tree)) x.number_is;
                   moves = omega (arith, x.moves);
                   within = x.within;
@@ -320,7 +313,7 @@ module _ (look : List ℕ → Named) (s : List ℕ) where
 
   module _ (node : ℕ → ℕ → Reading Tree) (at n m : ℕ) (d d' : List ℕ) where
     pub no_open : (t : Token) (p : ℕ) → t ≡ next s at → NoOpen t → p ≡ place t
-        → ArgsRead s at n m d d' (brackets_at look s node at n) (Fault (Misplaced p))
+        → ArgsRead s at n m d d' (brackets_at look s node at n) (Err (Misplaced p))
     unfolding brackets_at ArgsRead
     no_open t p e h q =
         let k : ℕ → Reading Trees = λ inside. bracketed node n inside (next s inside) in
@@ -334,7 +327,7 @@ module _ (look : List ℕ → Named) (s : List ℕ) where
           ∙ sym (ap (bracketed node n (o + 1)) first)
 
       pub empty_brackets : (p : ℕ) → t ≡ Close p → n ≤ most_nodes → m ≤ 3 * n → d' ≡ d
-          → ArgsRead s at n m d d' (brackets_at look s node at n) (Past (p + 1) n m 0)
+          → ArgsRead s at n m d d' (brackets_at look s node at n) (Ok (record { at = p + 1; nodes = n; made = m; count = 0 }))
       unfolding bytes_of count ArgsRead
       empty_brackets p c few room w =
           let a = placed s at bracket in
@@ -352,7 +345,7 @@ module _ (look : List ℕ → Named) (s : List ℕ) where
             room = room;
           }
 
-      pub full_brackets : (r : Step) → NoClose t
+      pub full_brackets : (r : Result Past Refusal) → NoClose t
           → ((left : ℕ) → most_nodes < left + n → ArgsRead s (o + 1) n m d d' (args_at look s node left (o + 1) n) r)
           → ArgsRead s at n m d d' (brackets_at look s node at n) r
       unfolding ArgsRead
@@ -361,93 +354,96 @@ module _ (look : List ℕ → Named) (s : List ℕ) where
           handed : brackets_at look s node at n ≡ args_at look s node (suc most_nodes) (o + 1) n
           handed = opened ∙ no_close t h (λ behind. done none behind n) (args_at look s node (suc most_nodes) (o + 1) n)
 
-          go : (r : Step) → ArgsRead s (o + 1) n m d d' (args_at look s node (suc most_nodes) (o + 1) n) r
+          go : (r : Result Past Refusal) → ArgsRead s (o + 1) n m d d' (args_at look s node (suc most_nodes) (o + 1) n) r
               → ArgsRead s at n m d d' (brackets_at look s node at n) r
-          go (Fault why) x = handed ∙ x
-          go (Past behind nodes made number) x = let a = placed s at bracket in went-later handed (omega arith) x
+          go (Err why) x = handed ∙ x
+          go (Ok p) x = let a = placed s at bracket in went-later handed (omega arith) x
 
-  module _ (node : ℕ → ℕ → Reading Tree) (at n m : ℕ) (few : n ≤ most_nodes) (d a : List ℕ) (r₁ : Step)
-      (one : NodeRead s at n m d a (node at n) r₁) where
-    pub argument-fault : (d' : List ℕ) (why : Refusal) → r₁ ≡ Fault why
-        → (left : ℕ) → most_nodes < left + n → ArgsRead s at n m d d' (args_at look s node left at n) (Fault why)
+  module _ (node : ℕ → ℕ → Reading Tree) (at n m : ℕ) (few : n ≤ most_nodes) (d a : List ℕ) where
+    pub argument-fault : (d' : List ℕ) (why : Refusal) → NodeRead s at n m d a (node at n) (Err why)
+        → (left : ℕ) → most_nodes < left + n → ArgsRead s at n m d d' (args_at look s node left at n) (Err why)
     unfolding args_at NodeRead ArgsRead
-    argument-fault d' why eq zero h = absurd (omega arith)
-    argument-fault d' why eq (suc left) h =
-        ap (λ x. and_then x (λ e next_at so_far. following node left e so_far (next s next_at)))
-        (fault_node s at n m d a (node at n) r₁ one why eq)
+    argument-fault d' why one zero h = absurd (omega arith)
+    argument-fault d' why one (suc left) h =
+        ap (λ x. and_then x (λ e next_at so_far. following node left e so_far (next s next_at))) one
 
-    module _ (behind nodes made k : ℕ) (eq : r₁ ≡ Past behind nodes made k) (t : Token) (token : t ≡ next s behind) where
-      pub argument : Went bytes_of (λ e. 1) s at n m d a (node at n) behind nodes made k
-      argument = went_node s at n m d a (node at n) r₁ one behind nodes made k eq
+    module _ (o : Past) (one : NodeRead s at n m d a (node at n) (Ok o)) (t : Token) (token : t ≡ next s o.at) where
+      pub argument : Went bytes_of (λ e. 1) s at n m d a (node at n) o
+      unfolding NodeRead
+      argument = one
 
       onward : (left : ℕ) → args_at look s node (suc left) at n
-          ≡ following node left argument.tree nodes t
+          ≡ following node left argument.tree o.nodes t
       unfolding args_at
       onward left =
           ap (λ x. and_then x (λ e next_at so_far. following node left e so_far (next s next_at))) argument.is
-          ∙ sym (ap (following node left argument.tree nodes) token)
+          ∙ sym (ap (following node left argument.tree o.nodes) token)
 
       pub no_comma : (d' : List ℕ) (p : ℕ) → NoMore t → p ≡ place t
-          → (left : ℕ) → most_nodes < left + n → ArgsRead s at n m d d' (args_at look s node left at n) (Fault (Misplaced p))
+          → (left : ℕ) → most_nodes < left + n → ArgsRead s at n m d d' (args_at look s node left at n) (Err (Misplaced p))
       unfolding ArgsRead
       no_comma d' p other q zero h = absurd (omega arith)
       no_comma d' p other q (suc left) h =
           onward left
-          ∙ more-misplaced t other (λ behind. done (more argument.tree none) behind nodes)
-          (λ behind. and_then (args_at look s node left behind nodes) (λ es. done (more argument.tree es)))
+          ∙ more-misplaced t other (λ behind. done (more argument.tree none) behind o.nodes)
+          (λ behind. and_then (args_at look s node left behind o.nodes) (λ es. done (more argument.tree es)))
           ∙ ap (refused 15) (sym q)
 
       pub last-argument : (p : ℕ) → t ≡ Close p
-          → (left : ℕ) → most_nodes < left + n → ArgsRead s at n m d a (args_at look s node left at n) (Past (p + 1) nodes made 1)
+          → (left : ℕ) → most_nodes < left + n → ArgsRead s at n m d a (args_at look s node left at n)
+          (Ok (record { at = p + 1; nodes = o.nodes; made = o.made; count = o.count }))
       unfolding bytes_of count ArgsRead
       last-argument p c zero h = absurd (omega arith)
       last-argument p c (suc left) h =
           let x = argument in
-          let q = placed s behind (sym c ∙ token) in
+          let q = placed s o.at (sym c ∙ token) in
           record {
             tree = more x.tree none;
             is =
                 onward left
-                ∙ ap (following node left x.tree nodes) c;
-            number_is = refl;
+                ∙ ap (following node left x.tree o.nodes) c;
+            number_is = x.number_is;
             made-is = omega (arith, x.made-is, length-append (bytes_of x.tree) []);
             written = x.written ∙ ap (sets d m) (sym (append-nil (bytes_of x.tree)));
             moves = omega (arith, x.moves);
             within = omega arith;
-            grows = omega (arith, x.grows, x.number_is);
+            grows = x.grows;
             few = x.few;
             room = x.room;
           }
 
-      module _ (p : ℕ) (comma : t ≡ Comma p) (b : List ℕ) (r₂ : Step)
-          (rest : (left : ℕ) → most_nodes < left + nodes → ArgsRead s (p + 1) nodes made a b (args_at look s node left (p + 1) nodes) r₂) where
-        enough : (left : ℕ) → most_nodes < suc left + n → ArgsRead s (p + 1) nodes made a b (args_at look s node left (p + 1) nodes) r₂
-        enough left h = rest left (omega (arith, argument.grows, argument.number_is))
+      module _ (p : ℕ) (comma : t ≡ Comma p) (b : List ℕ) where
+        -- the others are read with any number left that suffices
+        abbrev Rest : Result Past Refusal → Type 0
+        Rest r = (left : ℕ) → most_nodes < left + o.nodes → ArgsRead s (p + 1) o.nodes o.made a b (args_at look s node left (p + 1) o.nodes) r
+
+        enough : (r : Result Past Refusal) → Rest r → (left : ℕ) → most_nodes < suc left + n
+            → ArgsRead s (p + 1) o.nodes o.made a b (args_at look s node left (p + 1) o.nodes) r
+        enough r rest left h = rest left (omega (arith, argument.grows, argument.number_is))
 
         another : (left : ℕ) → args_at look s node (suc left) at n
-            ≡ and_then (args_at look s node left (p + 1) nodes) (λ es. done (more argument.tree es))
+            ≡ and_then (args_at look s node left (p + 1) o.nodes) (λ es. done (more argument.tree es))
         another left =
             onward left
-            ∙ ap (following node left argument.tree nodes) comma
+            ∙ ap (following node left argument.tree o.nodes) comma
 
-        pub others-fault : (d' : List ℕ) (why : Refusal) → r₂ ≡ Fault why
-            → (left : ℕ) → most_nodes < left + n → ArgsRead s at n m d d' (args_at look s node left at n) (Fault why)
+        pub others-fault : (d' : List ℕ) (why : Refusal) → Rest (Err why)
+            → (left : ℕ) → most_nodes < left + n → ArgsRead s at n m d d' (args_at look s node left at n) (Err why)
         unfolding ArgsRead
-        others-fault d' why is zero h = absurd (omega arith)
-        others-fault d' why is (suc left) h =
+        others-fault d' why rest zero h = absurd (omega arith)
+        others-fault d' why rest (suc left) h =
             another left
-            ∙ ap (λ x. and_then x (λ es. done (more argument.tree es)))
-            (fault-args s (p + 1) nodes made a b (args_at look s node left (p + 1) nodes) r₂ (enough left (omega arith)) why is)
+            ∙ ap (λ x. and_then x (λ es. done (more argument.tree es))) (enough (Err why) rest left (omega arith))
 
-        pub others : (behind all whole j : ℕ) → r₂ ≡ Past behind all whole j
-            → (left : ℕ) → most_nodes < left + n → ArgsRead s at n m d b (args_at look s node left at n) (Past behind all whole (j + 1))
+        pub others : (q : Past) → Rest (Ok q)
+            → (left : ℕ) → most_nodes < left + n → ArgsRead s at n m d b (args_at look s node left at n)
+            (Ok (record { at = q.at; nodes = q.nodes; made = q.made; count = q.count + 1 }))
         unfolding bytes_of count ArgsRead
-        others end all whole j is zero h = absurd (omega arith)
-        others end all whole j is (suc left) h =
+        others o' rest zero h = absurd (omega arith)
+        others o' rest (suc left) h =
             let x = argument in
-            let others-are = enough left (omega arith) in
-            let y = went-args s (p + 1) nodes made a b (args_at look s node left (p + 1) nodes) r₂ others-are end all whole j is in
-            let q = placed s behind (sym comma ∙ token) in
+            let y = enough (Ok o') rest left (omega arith) in
+            let q = placed s o.at (sym comma ∙ token) in
             record {
               tree = more x.tree y.tree;
               is = another left ∙ ap (λ x. and_then x (λ es. done (more argument.tree es))) y.is;

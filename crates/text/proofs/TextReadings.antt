@@ -7,6 +7,7 @@ use native.Mathlib.Omega.{arith}
 use borrow.Author.Tests.{lt-ltb, le-ltb}
 use lib.ListN.{length, take}
 use lib.Seq.{length-sets}
+use Rattle.std.specs.Prelude.{Ok, Err}
 use Rattle.scalars.specs.Refusal.{numbered}
 use Rattle.scalars.specs.Paper.{refusal, unused}
 use Rattle.scalars.specs.declared.refusal.Refusal.{Refusal}
@@ -19,15 +20,13 @@ use Rattle.expressions.specs.Tree.{Tree, bytes_of, deepest}
 use Rattle.expressions.specs.Reading.{read, refused_as}
 use Rattle.text.specs.declared.token.Token.{Token}
 use Rattle.text.specs.declared.token.Token.TheVariants.{Open, Close, Comma, Run, End}
-use Rattle.text.specs.declared.reader.Step.{Step}
-use Rattle.text.specs.declared.reader.Step.TheVariants.{Past, Fault}
+use Rattle.text.specs.declared.reader.Past.{Past}
 use Rattle.text.specs.Tokens.{next, place}
 use Rattle.text.specs.Grammar.{most_bytes}
 use Rattle.text.specs.Reading.{node_at, at_end, whole, reading_of, reading}
 use Rattle.text.specs.Lent.{made_answer, lent_answer, lent_buffer}
 use Rattle.text.specs.private.ReadStep.{Went, NodeRead}
 use Rattle.text.proofs.Stores.{stored_front}
-use Rattle.text.proofs.ReaderSteps.{fault_node, went_node}
 
 -- what is answered, and what the lent buffer holds then
 abbrev pub Answers : List ℕ → List ℕ → ℕ → ℕ → Type 0
@@ -62,23 +61,23 @@ module _ (s out : List ℕ) where
     unfolding reading_of
     short-is = sym (ap (λ look. reading_of look s) look_is) ∙ simp (le-ltb most_bytes (length s) short)
 
-    module _ (strip strip' : List ℕ) (r : Step) (root : NodeRead s 0 0 0 strip strip' (node_at (word_in names index) s deepest 0 0) r) where
-      pub root-fault : (why : Refusal) → r ≡ Fault why → Answers s out (numbered why).0 (numbered why).1
-      root-fault why eq =
-          let x = fault_node s 0 0 0 strip strip' (node_at (word_in names index) s deepest 0 0) r root why eq in
-          refuses (numbered why).0 (numbered why).1 (short-is ∙ ap (whole (word_in names index) s) x)
+    module _ (strip strip' : List ℕ) where
+      pub root-fault : (why : Refusal) → NodeRead s 0 0 0 strip strip' (node_at (word_in names index) s deepest 0 0) (Err why) → Answers s out (numbered why).0 (numbered why).1
+      unfolding NodeRead
+      root-fault why x = refuses (numbered why).0 (numbered why).1 (short-is ∙ ap (whole (word_in names index) s) x)
 
-      module _ (behind nodes made k : ℕ) (eq : r ≡ Past behind nodes made k) where
-        tree : Went bytes_of (λ e. 1) s 0 0 0 strip strip' (node_at (word_in names index) s deepest 0 0) behind nodes made k
-        tree = went_node s 0 0 0 strip strip' (node_at (word_in names index) s deepest 0 0) r root behind nodes made k eq
+      module _ (o : Past) (root : NodeRead s 0 0 0 strip strip' (node_at (word_in names index) s deepest 0 0) (Ok o)) where
+        tree : Went bytes_of (λ e. 1) s 0 0 0 strip strip' (node_at (word_in names index) s deepest 0 0) o
+        unfolding NodeRead
+        tree = root
 
-        pub tree-room : length strip ≡ 192 → made ≤ length strip'
+        pub tree-room : length strip ≡ 192 → o.made ≤ length strip'
         tree-room l = omega (arith, tree.room, tree.few, ap length tree.written ∙ length-sets strip 0 (bytes_of tree.tree))
 
-        made-is : made ≡ length (bytes_of tree.tree)
+        made-is : o.made ≡ length (bytes_of tree.tree)
         made-is = omega (arith, tree.made-is)
 
-        module _ (t : Token) (token : t ≡ next s behind) where
+        module _ (t : Token) (token : t ≡ next s o.at) where
           ended : reading s ≡ at_end (word_in names index) s tree.tree t
           ended =
               short-is
@@ -92,10 +91,10 @@ module _ (s out : List ℕ) where
             accepted-is : reading s ≡ read tree.tree
             accepted-is = ended ∙ ap (at_end (word_in names index) s tree.tree) last
 
-            pub read_answer : made_answer made (length out) ≡ lent_answer bytes_of (reading s) (length out)
+            pub read_answer : made_answer o.made (length out) ≡ lent_answer bytes_of (reading s) (length out)
             read_answer = rw accepted-is (ap (λ n. made_answer n (length out)) made-is)
 
-            pub read_buffer : length strip ≡ 192 → placed (take made strip') out ≡ lent_buffer bytes_of (reading s) out
+            pub read_buffer : length strip ≡ 192 → placed (take o.made strip') out ≡ lent_buffer bytes_of (reading s) out
             read_buffer l =
                 let b = bytes_of tree.tree in
                 rw accepted-is

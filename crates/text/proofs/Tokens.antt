@@ -1,62 +1,55 @@
 -- The tokens of a text, by the byte that stands at an offset, and where the next token stands. Assumes nothing.
 use mathlib.Core.Path.{◌≡◌, refl, sym, ap, ◌∙◌, subst⁻¹}
-use mathlib.Core.Bool.{Bool, true, false}
+use mathlib.Core.Bool.{Bool, true, false, cond, not}
 use mathlib.Core.List.{List, [], ◌∷◌}
 use Prim.Native.Nat.{ℕ, suc, ◌+◌, ◌≤◌, ◌<◌}
 use native.Mathlib.Omega.{arith}
 use native.Mathlib.Numerals.{add-one}
-use borrow.Author.Tests.{eq-eqb, ne_eqb, le-leb, lt-leb, leb-false}
+use borrow.Author.Tests.{ne_eqb, le-leb, lt-leb, leb-false}
 use lib.Dec.{eqb, leb}
-use lib.ListN.{length, get_or, drop, length-drop, drop_of_length-le}
+use lib.ListN.{length, get_or, take, drop, length-drop}
 use lib.Seq.{drop-cons, get_or-drop}
+use Rattle.std.specs.List.{prefix_len}
+use Rattle.std.proofs.lemmas.List.Folds.{length-prefix_len}
 use Rattle.scalars.specs.Mask.{choose}
 use Rattle.text.specs.Tokens.{space_byte, open_byte, close_byte, comma_byte, separates, gap, extent, token_at, next}
+use Rattle.text.specs.private.Placed.{Placed}
 use Rattle.text.specs.declared.token.Token.{Token}
 use Rattle.text.specs.declared.token.Token.TheVariants.{Open, Close, Comma, Run, End}
 
--- ---- spaces and runs, a byte at a time
+-- ---- spaces and runs, counted
 
-module _ (s : List ℕ) (p : ℕ) where
-  head_at : p < length s → drop p s ≡ get_or s p 0 ∷ drop (p + 1) s
-  head_at h = rw (add-one, drop-cons s p 0)
+spaces_counted : (s : List ℕ) → prefix_len (λ b. eqb b space_byte) s ≡ gap s
+unfolding gap
+spaces_counted [] = refl
+spaces_counted (b ∷ s) = step (eqb b space_byte) (spaces_counted s)
+  where
+    step : (t : Bool) {m n : ℕ} → m ≡ n → cond t (1 + m) 0 ≡ choose t (suc n) 0
+    step true e = omega arith
+    step false e = refl
 
-  pub gap-end : length s ≤ p → p + gap (drop p s) ≡ p
-  unfolding gap
-  gap-end h = let e = ap gap (drop_of_length-le s h) in omega arith
+pub gap-counted : (s : List ℕ) → length (take (prefix_len (λ b. eqb b space_byte) s) s) ≡ gap s
+gap-counted s = length-prefix_len (λ b. eqb b space_byte) s ∙ spaces_counted s
 
-  pub extent-end : length s ≤ p → p + extent (drop p s) ≡ p
-  unfolding extent
-  extent-end h = let e = ap extent (drop_of_length-le s h) in omega arith
+run-counted : (s : List ℕ) → prefix_len (λ b. not (separates b)) s ≡ extent s
+unfolding extent
+run-counted [] = refl
+run-counted (b ∷ s) = step (separates b) (run-counted s)
+  where
+    step : (t : Bool) {m n : ℕ} → m ≡ n → cond (not t) (1 + m) 0 ≡ choose t 0 (suc n)
+    step true e = refl
+    step false e = omega arith
 
-  module _ (h : p < length s) where
-    pub gap_step : get_or s p 0 ≡ space_byte → p + gap (drop p s) ≡ p + 1 + gap (drop (p + 1) s)
-    unfolding gap
-    gap_step e =
-        let k : gap (drop p s) ≡ suc (gap (drop (p + 1) s)) = ap gap (head_at h) ∙ simp (eq-eqb (get_or s p 0) space_byte e) in
-        omega arith
+pub extent-counted : (s : List ℕ) → length (take (prefix_len (λ b. not (separates b)) s) s) ≡ extent s
+extent-counted s = length-prefix_len (λ b. not (separates b)) s ∙ run-counted s
 
-    pub gap-stop : (get_or s p 0 ≡ space_byte → ⊥) → p + gap (drop p s) ≡ p
-    unfolding gap
-    gap-stop e =
-        let k : gap (drop p s) ≡ 0 = ap gap (head_at h) ∙ simp (ne_eqb (get_or s p 0) space_byte e) in
-        omega arith
-
-    pub extent-step : separates (get_or s p 0) ≡ false → p + extent (drop p s) ≡ p + 1 + extent (drop (p + 1) s)
-    unfolding extent
-    extent-step e =
-        let k : extent (drop p s) ≡ suc (extent (drop (p + 1) s)) = ap extent (head_at h) ∙ simp e in
-        omega arith
-
-    pub extent-stop : separates (get_or s p 0) ≡ true → p + extent (drop p s) ≡ p
-    unfolding extent
-    extent-stop e =
-        let k : extent (drop p s) ≡ 0 = ap extent (head_at h) ∙ simp e in
-        omega arith
-
-pub other-separates : (b : ℕ) → (b ≡ space_byte → ⊥) → (b ≡ open_byte → ⊥) → (b ≡ close_byte → ⊥)
-    → eqb b comma_byte ≡ separates b
-unfolding separates
-other-separates b x y z = simp (ne_eqb b space_byte x, ne_eqb b open_byte y, ne_eqb b close_byte z)
+-- a run has the byte in front of it, where that byte is no separator
+extent-step : (s : List ℕ) (p : ℕ) → p < length s → separates (get_or s p 0) ≡ false → p + extent (drop p s) ≡ p + 1 + extent (drop (p + 1) s)
+unfolding extent
+extent-step s p h e =
+    let head : drop p s ≡ get_or s p 0 ∷ drop (p + 1) s = rw (add-one, drop-cons s p 0) in
+    let k : extent (drop p s) ≡ suc (extent (drop (p + 1) s)) = ap extent head ∙ simp e in
+    omega arith
 
 -- ---- the next token, by the byte at its place
 
@@ -69,40 +62,25 @@ module _ (s : List ℕ) (at p : ℕ) (e : p ≡ at + gap (drop at s)) where
   unfolding token_at
   is-end h = sym (to-place ∙ simp (le-leb (length s) p h))
 
-  module _ (h : p < length s) where
-    pub is_open : get_or s p 0 ≡ open_byte → Open p ≡ next s at
+  module _ (h : p < length s) (b : ℕ) (byte : b ≡ get_or s p 0) where
+    pub is_open : b ≡ open_byte → Open p ≡ next s at
     unfolding token_at
-    is_open b = sym (to-place ∙ simp (lt-leb (length s) p h, eq-eqb (get_or s p 0) open_byte b))
+    is_open x = let e : get_or s p 0 ≡ open_byte = sym byte ∙ x in sym (to-place ∙ simp (lt-leb (length s) p h, e))
 
-    module _ (no_open : get_or s p 0 ≡ open_byte → ⊥) where
-      pub is_close : get_or s p 0 ≡ close_byte → Close p ≡ next s at
-      unfolding token_at
-      is_close b =
-          sym (to-place ∙ simp (lt-leb (length s) p h, ne_eqb (get_or s p 0) open_byte no_open, eq-eqb (get_or s p 0) close_byte b))
+    pub is_close : b ≡ close_byte → Close p ≡ next s at
+    unfolding token_at
+    is_close x = let e : get_or s p 0 ≡ close_byte = sym byte ∙ x in sym (to-place ∙ simp (lt-leb (length s) p h, e))
 
-      module _ (no_close : get_or s p 0 ≡ close_byte → ⊥) where
-        pub is_comma : get_or s p 0 ≡ comma_byte → Comma p ≡ next s at
-        unfolding token_at
-        is_comma b =
-            sym (to-place
-            ∙ simp (
-              lt-leb (length s) p h,
-              ne_eqb (get_or s p 0) open_byte no_open,
-              ne_eqb (get_or s p 0) close_byte no_close,
-              eq-eqb (get_or s p 0) comma_byte b,
-            ))
+    pub is_comma : b ≡ comma_byte → Comma p ≡ next s at
+    unfolding token_at
+    is_comma x = let e : get_or s p 0 ≡ comma_byte = sym byte ∙ x in sym (to-place ∙ simp (lt-leb (length s) p h, e))
 
-        pub is-run : (get_or s p 0 ≡ comma_byte → ⊥) → (z : ℕ) → z ≡ p + extent (drop p s) → Run p z ≡ next s at
-        unfolding token_at
-        is-run b z d =
-            ap (Run p) d
-            ∙ sym (to-place
-            ∙ simp (
-              lt-leb (length s) p h,
-              ne_eqb (get_or s p 0) open_byte no_open,
-              ne_eqb (get_or s p 0) close_byte no_close,
-              ne_eqb (get_or s p 0) comma_byte b,
-            ))
+    pub is-run : (b ≡ open_byte → ⊥) → (b ≡ close_byte → ⊥) → (b ≡ comma_byte → ⊥) → (z : ℕ) → z ≡ p + extent (drop p s)
+        → Run p z ≡ next s at
+    unfolding token_at
+    is-run x y w z d =
+        ap (Run p) d
+        ∙ sym (to-place ∙ simp (lt-leb (length s) p h, sym byte, ne_eqb b open_byte x, ne_eqb b close_byte y, ne_eqb b comma_byte w))
 
 -- ---- where the next token stands
 
@@ -134,14 +112,6 @@ extent-within (b ∷ l) = go (separates b) (extent-within l)
     go : (t : Bool) → extent l ≤ length l → choose t 0 (suc (extent l)) ≤ suc (length l)
     go true h = omega arith
     go false h = omega arith
-
--- from the offset on, and within the text
-abbrev pub Placed : List ℕ → ℕ → Token → Type 0
-Placed s at (Open p) = (at ≤ p) × (p < length s)
-Placed s at (Close p) = (at ≤ p) × (p < length s)
-Placed s at (Comma p) = (at ≤ p) × (p < length s)
-Placed s at (Run p e) = (at ≤ p) × (p < e) × (e ≤ length s)
-Placed s at (End p) = at ≤ p
 
 either_way : {A : Type 0} (P : A → Type 0) (b : Bool) (x y : A) → (b ≡ true → P x) → (b ≡ false → P y) → P (choose b x y)
 either_way P true x y f g = f refl

@@ -138,8 +138,8 @@ module _ (b names index : List ℕ) (at m : ℕ) where
     no-leaf : {A : Type 0} (l : Operand) (tail : List ℕ) → drop at b ≡ bytes_of (leaf l) ++ tail → A
     no-leaf l tail t = tag-leaf l.measured (sym (leaf_there_lem b at l tail t).tag ∙ tag)
 
-    pub three-bytes : NodeThere b names index at m → at + 2 < length b
-    three-bytes n = go n.tree n.text
+    pub three_bytes : NodeThere b names index at m → at + 2 < length b
+    three_bytes n = go n.tree n.text
       where
         go : (e : Tree) → drop at b ≡ bytes_of e ++ n.tail → at + 2 < length b
         go (leaf l) t = no-leaf l n.tail t

@@ -1,11 +1,11 @@
--- The whole answer: a fault of the first pass, or the text of the tree that the first pass accepted. Assumes nothing.
-use mathlib.Core.Path.{◌≡◌, refl, sym, ap, ap₂, ◌∙◌}
+-- The text of the tree that the first pass accepted. Assumes nothing.
+use mathlib.Core.Path.{◌≡◌, sym, ap, ap₂, ◌∙◌}
 use mathlib.Core.List.{List, [], ◌∷◌, ◌++◌, append-nil}
 use Prim.Native.Nat.{ℕ, ◌≤◌}
 use native.Mathlib.Omega.{arith}
 use lib.ListN.{length, take, drop}
 use lib.Seq.{length-sets}
-use Rattle.scalars.specs.Paper.{accepted, refusal, unused}
+use Rattle.scalars.specs.Paper.{accepted}
 use Rattle.functions.specs.Functions.{function_count}
 use Rattle.names.specs.Spelling.{built_in_names}
 use Rattle.names.specs.Index.{built_in_index}
@@ -13,7 +13,7 @@ use Rattle.lending.specs.Bytes.{placed}
 use Rattle.expressions.specs.Tree.{Tree, bytes_of}
 use Rattle.expressions.specs.Reading.{read, expression_of, read_of}
 use Rattle.expressions.proofs.Sound.{read-spelt}
-use Rattle.expressions.proofs.Answers.{accepted-tree, refused-fault}
+use Rattle.expressions.proofs.Answers.{accepted-tree}
 use Rattle.text.specs.declared.writer.Turn.{Turn}
 use Rattle.text.specs.Writing.{text_with, text_of}
 use Rattle.text.specs.Lent.{made_answer, lent_answer, lent_buffer}
@@ -22,11 +22,6 @@ use Rattle.text.proofs.SpeltTexts.{spelt-text, text-short}
 use Rattle.text.proofs.Stores.{stored_front}
 
 module _ (b : List ℕ) where
-  pub first_fault_lem : (d : List ℕ) (n p : ℕ) → refusal n p (unused ∷ []) ≡ read_of (expression_of function_count b)
-      → (refusal n p (unused ∷ []) ≡ lent_answer text_of (expression_of function_count b) (length d))
-      × (d ≡ lent_buffer text_of (expression_of function_count b) d)
-  first_fault_lem d n p e = rw (refused-fault (expression_of function_count b) n p e) (refl, refl)
-
   module _ (n : ℕ) (ok : accepted (n ∷ []) ≡ read_of (expression_of function_count b)) (names index : List ℕ) (ne : names ≡ built_in_names)
       (ie : index ≡ built_in_index) where
     -- the tree that was read, and its text in the lent names
@@ -53,7 +48,7 @@ module _ (b : List ℕ) where
       unfolding NodeWritten
       turned e text = w e [] text
 
-      pub root-long : text_room ≡ length s'
+      root-long : text_room ≡ length s'
       root-long =
           let (e, x, text, spelling, short) = root in
           let whole = text_with (type_in names index) (function_in names index) e in

@@ -1,10 +1,7 @@
 -- The paper's number, place and value for reading or writing a text: how many bytes were put into the lent buffer, 255 where it is refused.
-use Rattle.std.specs.Prelude.{[], ◌∷◌}
-use Rattle.scalars.specs.Paper as paper
-use Rattle.scalars.specs.Paper.{Paper, unused}
-use Rattle.text.specs.declared.answer.TextAnswer.{TextAnswer}
-use Rattle.text.specs.declared.answer.TextAnswer.TheVariants.{Made, Refused}
+use Rattle.std.specs.Prelude.{ℕ, [], ◌∷◌, Result}
+use Rattle.scalars.specs.Paper.{Paper, answer_paper, unused}
+use Rattle.scalars.specs.declared.refusal.Refusal.{Refusal}
 
-abbrev pub text_paper : TextAnswer → Paper
-text_paper (Made n) = paper.accepted (n ∷ [])
-text_paper (Refused why) = paper.refused why (unused ∷ [])
+abbrev pub text_paper : Result ℕ Refusal → Paper
+text_paper = answer_paper (λ n. n ∷ []) (unused ∷ [])

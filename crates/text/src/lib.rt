@@ -5,15 +5,15 @@
 // `expressions`.
 #![tactic(auto)]
 
-mod answer;
+mod lent;
 mod read;
 mod reader;
+mod source;
 mod strip;
 mod token;
 mod write;
 mod writer;
 
-pub use answer::TextAnswer;
 pub use read::{MOST_BYTES, read_text};
 pub use token::Token;
 pub use write::write_text;

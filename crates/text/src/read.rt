@@ -6,9 +6,10 @@ ghost use Rattle.text.specs.TextPaper.{text_paper};
 ghost use Rattle.text.specs.Lent.{lent_answer, lent_buffer};
 ghost use Rattle.text.specs.Reading.{reading};
 
-use crate::answer::{TextAnswer, lend_front};
-use crate::reader::{Step, read_node};
-use crate::token::{Token, next_token, place};
+use crate::lent::lend_front;
+use crate::source::Source;
+use crate::strip::blank;
+use crate::token::{Token, next_token};
 use expressions::MOST_NODES;
 use names::{built_in_index, built_in_names};
 use scalars::Refusal;
@@ -22,28 +23,24 @@ const ENOUGH_BYTES: usize = 3 * MOST_NODES;
 // Reads a text and puts the bytes of its expression into the lent buffer. Refused 15 at 4096 for a longer text; then by the first fault in
 // the text: 9 a node too many or too deep, 14 an unknown run where a node may begin, 15 a token misplaced or missing; then 10. That a measured
 // leaf is not abstract is no matter of the text: the first pass over the bytes tells.
-pub fn read_text(text: &[u8], out: &mut [u8]) -> TextAnswer
+pub fn read_text(text: &[u8], out: &mut [u8]) -> Result<usize, Refusal>
     ensures answer { text_paper result ≡ lent_answer bytes_of (reading text.now) (length out.old) }
     ensures buffer { out.new ≡ lent_buffer bytes_of (reading text.now) out.old }
 {
     if MOST_BYTES < text.len() {
-        return TextAnswer::Refused(Refusal::Misplaced(MOST_BYTES));
+        return Err(Refusal::Misplaced(MOST_BYTES));
     }
     let names = built_in_names();
     let index = built_in_index();
-    let mut strip = room();
-    match read_node(text, 0, 0, 1, 0, &names, &index, &mut strip) {
-        Step::Fault(why) => TextAnswer::Refused(why),
-        Step::Past(at, _, made, _) => match next_token(text, at) {
-            Token::End(_) => lend_front(&strip, made, out),
-            other => TextAnswer::Refused(Refusal::Misplaced(place(other))),
-        },
+    let mut strip = blank::<ENOUGH_BYTES>();
+    let source = Source {
+        bytes: text,
+        names: &names,
+        index: &index,
+    };
+    let root = source.read_node(0, 0, 1, 0, &mut strip)?;
+    match next_token(text, root.at) {
+        Token::End(_) => lend_front(&strip, root.made, out),
+        other => Err(Refusal::Misplaced(other.place())),
     }
-}
-
-// Room for the bytes of any expression.
-fn room() -> [u8; ENOUGH_BYTES]
-    ensures { length result ≡ 192 }
-{
-    [0; ENOUGH_BYTES]
 }

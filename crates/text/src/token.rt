@@ -2,6 +2,7 @@
 
 ghost use Rattle.std.specs.Prelude.{◌≡◌, ◌+◌, drop};
 ghost use Rattle.text.specs.Tokens.{gap, separates, extent, next, place};
+ghost use Rattle.text.specs.private.Placed.{Placed};
 
 pub(crate) const SPACE: u8 = b' ';
 
@@ -22,80 +23,60 @@ pub enum Token {
     End(usize),
 }
 
-// Where a token stands.
-pub(crate) fn place(token: Token) -> usize
-    ensures { result ≡ place token }
-{
-    match token {
-        Token::Open(at) => at,
-        Token::Close(at) => at,
-        Token::Comma(at) => at,
-        Token::Run(at, _) => at,
-        Token::End(at) => at,
+impl Token {
+    // Where the token stands.
+    pub(crate) fn place(self) -> usize
+        ensures { result ≡ place self }
+    {
+        match self {
+            Token::Run(at, _) => at,
+            Token::Open(at) | Token::Close(at) | Token::Comma(at) | Token::End(at) => at,
+        }
     }
 }
 
 // The first token from `at` on.
 pub(crate) fn next_token(text: &[u8], at: usize) -> Token
-    ensures { result ≡ next text.now at }
+    ensures token { result ≡ next text.now at }
+    ensures place { Placed text.now at result }
 {
     let start = skip_spaces(text, at);
-    if text.len() <= start {
-        return Token::End(start);
+    match text.get(start) {
+        None => Token::End(start),
+        Some(&OPEN) => Token::Open(start),
+        Some(&CLOSE) => Token::Close(start),
+        Some(&COMMA) => Token::Comma(start),
+        Some(_) => Token::Run(start, run_end(text, start)),
     }
-    let first = text[start];
-    if first == OPEN {
-        return Token::Open(start);
-    }
-    if first == CLOSE {
-        return Token::Close(start);
-    }
-    if first == COMMA {
-        return Token::Comma(start);
-    }
-    Token::Run(start, run_end(text, start))
 }
 
 // The first offset from `at` on that has no space.
 fn skip_spaces(text: &[u8], at: usize) -> usize
     ensures { result ≡ at + gap (drop at text.now) }
 {
-    let mut i = at;
-    while i < text.len() {
-        if text[i] != SPACE {
-            return i;
-        }
-        i += 1;
-    }
-    i
+    at + rest(text, at).iter().take_while(|b| **b == SPACE).count()
 }
 
 // The offset behind the run that begins at `at`.
 fn run_end(text: &[u8], at: usize) -> usize
     ensures { result ≡ at + extent (drop at text.now) }
 {
-    let mut i = at;
-    while i < text.len() {
-        if is_separator(text[i]) {
-            return i;
-        }
-        i += 1;
-    }
-    i
+    at + rest(text, at)
+        .iter()
+        .take_while(|b| !is_separator(**b))
+        .count()
+}
+
+// The bytes from an offset on, of which there may be none.
+fn rest(text: &[u8], at: usize) -> &[u8]
+    ensures { result.now ≡ drop at text.now }
+{
+    text.get(at..).unwrap_or(&[])
 }
 
 // Whether no run has this byte.
 fn is_separator(byte: u8) -> bool
     ensures { result ≡ separates byte }
 {
-    if byte == SPACE {
-        return true;
-    }
-    if byte == OPEN {
-        return true;
-    }
-    if byte == CLOSE {
-        return true;
-    }
-    byte == COMMA
+    byte == SPACE || byte == OPEN || byte == CLOSE || byte == COMMA
 }

@@ -7,31 +7,29 @@ ghost use Rattle.text.specs.TextPaper.{text_paper};
 ghost use Rattle.text.specs.Lent.{lent_answer, lent_buffer};
 ghost use Rattle.text.specs.Writing.{text_of};
 
-use crate::answer::{TextAnswer, lend_front};
-use crate::writer::{ENOUGH_BYTES, write_node};
-use expressions::{Read, read_expression};
+use crate::lent::lend_front;
+use crate::source::Source;
+use crate::strip::blank;
+use crate::writer::ENOUGH_BYTES;
+use expressions::read_expression;
 use functions::FUNCTION_COUNT;
 use names::{built_in_index, built_in_names};
+use scalars::Refusal;
 
 // Writes the text of an expression's bytes into the lent buffer. Refused by the first pass's 7, 8, 9 and 17, then 10.
-pub fn write_text(bytes: &[u8], out: &mut [u8]) -> TextAnswer
+pub fn write_text(bytes: &[u8], out: &mut [u8]) -> Result<usize, Refusal>
     ensures answer { text_paper result ≡ lent_answer text_of (expression_of function_count bytes.now) (length out.old) }
     ensures buffer { out.new ≡ lent_buffer text_of (expression_of function_count bytes.now) out.old }
 {
-    if let Read::Refused(why) = read_expression(bytes, FUNCTION_COUNT) {
-        return TextAnswer::Refused(why);
-    }
+    read_expression(bytes, FUNCTION_COUNT)?;
     let names = built_in_names();
     let index = built_in_index();
-    let mut strip = room();
-    let root = write_node(bytes, 0, 0, &names, &index, &mut strip);
-    let made = root.made;
-    lend_front(&strip, made, out)
-}
-
-// Room for the text of any expression.
-fn room() -> [u8; ENOUGH_BYTES]
-    ensures { length result ≡ 2112 }
-{
-    [0; ENOUGH_BYTES]
+    let mut strip = blank::<ENOUGH_BYTES>();
+    let source = Source {
+        bytes,
+        names: &names,
+        index: &index,
+    };
+    let root = source.write_node(0, 0, &mut strip);
+    lend_front(&strip, root.made, out)
 }

@@ -7,6 +7,7 @@ ghost use Rattle.std.proofs.lemmas.List.Edits.{sets};
 ghost use Rattle.text.specs.Writing.{leaf_text};
 ghost use Rattle.text.specs.private.WriteStep.{text_room, NodeThere, NodeWritten, RestThere, RestWritten};
 
+use crate::source::Source;
 use crate::token::{CLOSE, COMMA, OPEN, SPACE};
 use expressions::{CALL, MEASURED_LEAF, MOST_NODES};
 use names::{TYPE_COUNT, measured_name, spelling};
@@ -22,69 +23,68 @@ pub(crate) struct Turn {
     pub(crate) made: usize,
 }
 
-// Writes the node at `at`, which the first pass has found there, from `made` on.
-#[cycle(write_node_write_rest)]
-pub(crate) fn write_node(
-    bytes: &[u8],
-    at: usize,
-    made: usize,
-    names: &[u8],
-    index: &[u8],
-    strip: &mut [u8; ENOUGH_BYTES],
-) -> Turn
-    requires { NodeThere bytes.now names.now index.now at made }
-    ensures { NodeWritten bytes.now names.now index.now at made strip.old strip.new result }
-{
-    let tag = bytes[at];
-    let code = bytes[at + 1] as usize;
-    if tag != CALL {
-        let full = write_leaf(
+// Offset and length are numbers of their own here, as the definitions that are promised take them.
+impl<'a> Source<'a> {
+    // Writes the node at `at`, which the first pass has found there, from `made` on.
+    #[cycle(write_node_write_rest)]
+    pub(crate) fn write_node(&self, at: usize, made: usize, strip: &mut [u8; ENOUGH_BYTES]) -> Turn
+        requires { NodeThere self.now.bytes.now self.now.names.now self.now.index.now at made }
+        ensures { NodeWritten self.now.bytes.now self.now.names.now self.now.index.now at made strip.old strip.new result }
+    {
+        let tag = self.bytes[at];
+        // Widened by `as`, here and below: with `From` every answer of this function carries an equation more.
+        let code = self.bytes[at + 1] as usize;
+        if tag != CALL {
+            let full = write_leaf(
+                strip,
+                made,
+                tag == MEASURED_LEAF,
+                spelling(self.names, self.index, code),
+            );
+            return Turn {
+                at: at + 2,
+                made: full,
+            };
+        }
+        let count = self.bytes[at + 2] as usize;
+        let named = put_all(
             strip,
             made,
-            tag == MEASURED_LEAF,
-            spelling(names, index, code),
+            spelling(self.names, self.index, TYPE_COUNT + code),
         );
-        return Turn {
-            at: at + 2,
-            made: full,
-        };
+        strip[named] = OPEN;
+        if count == 0 {
+            strip[named + 1] = CLOSE;
+            return Turn {
+                at: at + 3,
+                made: named + 2,
+            };
+        }
+        let one = self.write_node(at + 3, named + 1, strip);
+        self.write_rest(one.at, count - 1, one.made, strip)
     }
-    let count = bytes[at + 2] as usize;
-    let named = put_all(strip, made, spelling(names, index, TYPE_COUNT + code));
-    strip[named] = OPEN;
-    if count == 0 {
-        strip[named + 1] = CLOSE;
-        return Turn {
-            at: at + 3,
-            made: named + 2,
-        };
-    }
-    let one = write_node(bytes, at + 3, named + 1, names, index, strip);
-    write_rest(bytes, one.at, count - 1, one.made, names, index, strip)
-}
 
-// Writes `left` further arguments, from `made` on, and the closing bracket.
-#[cycle(write_node_write_rest)]
-fn write_rest(
-    bytes: &[u8],
-    at: usize,
-    left: usize,
-    made: usize,
-    names: &[u8],
-    index: &[u8],
-    strip: &mut [u8; ENOUGH_BYTES],
-) -> Turn
-    requires { RestThere bytes.now names.now index.now at left made }
-    ensures { RestWritten bytes.now names.now index.now at left made strip.old strip.new result }
-{
-    if left == 0 {
-        strip[made] = CLOSE;
-        return Turn { at, made: made + 1 };
+    // Writes `left` further arguments, from `made` on, and the closing bracket.
+    #[cycle(write_node_write_rest)]
+    fn write_rest(
+        &self,
+        at: usize,
+        left: usize,
+        made: usize,
+        strip: &mut [u8; ENOUGH_BYTES],
+    ) -> Turn
+        requires { RestThere self.now.bytes.now self.now.names.now self.now.index.now at left made }
+        ensures { RestWritten self.now.bytes.now self.now.names.now self.now.index.now at left made strip.old strip.new result }
+    {
+        if left == 0 {
+            strip[made] = CLOSE;
+            return Turn { at, made: made + 1 };
+        }
+        strip[made] = COMMA;
+        strip[made + 1] = SPACE;
+        let one = self.write_node(at, made + 2, strip);
+        self.write_rest(one.at, left - 1, one.made, strip)
     }
-    strip[made] = COMMA;
-    strip[made + 1] = SPACE;
-    let one = write_node(bytes, at, made + 2, names, index, strip);
-    write_rest(bytes, one.at, left - 1, one.made, names, index, strip)
 }
 
 // Writes a leaf, measured or not, whose type has this name, from an offset on. Answers the offset behind it.
@@ -107,10 +107,7 @@ fn put_all(strip: &mut [u8; ENOUGH_BYTES], at: usize, bytes: &[u8]) -> usize
     ensures offset { result ≡ at + length bytes.now }
     ensures written { strip.new ≡ sets strip.old at bytes.now }
 {
-    let mut i: usize = 0;
-    while i < bytes.len() {
-        strip[at + i] = bytes[i];
-        i += 1;
-    }
-    at + i
+    let behind = at + bytes.len();
+    strip[at..behind].copy_from_slice(bytes);
+    behind
 }

@@ -1,6 +1,6 @@
 -- What an accepted call says, by Demand 2 of the contract of `call_of`: its function is known, its operands are in order, and its rule is the
 -- first of the full listing that takes them. Assumes nothing.
-use mathlib.Core.Path.{◌≡◌, refl, sym, subst}
+use mathlib.Core.Path.{◌≡◌, refl, sym, ap, subst}
 use mathlib.Core.Bool.{Bool, true, false}
 use mathlib.Core.List.{List}
 use Prim.Native.Nat.{ℕ, ◌<◌}
@@ -17,7 +17,8 @@ use Rattle.lists.specs.declared.list.Chosen.{Chosen}
 use Rattle.calls.specs.Choice.{Choice, chosen, wrong_count, none_after, none_concrete}
 use Rattle.calls.specs.Call.{answered, with_mark}
 use Rattle.calls.specs.CallPaper.{call_paper}
-use Rattle.calls.specs.declared.outcome.CallAnswer.TheVariants.{Called}
+use Rattle.calls.specs.declared.outcome.Called.{Called}
+use Rattle.std.specs.Prelude.{Ok}
 use Rattle.calls.proofs.CallPapers.{call-one}
 use Rattle.expressions.proofs.Answers.{accepted-refused}
 use Rattle.theorems.specs.Taking.{Best, Says}
@@ -33,7 +34,7 @@ module _ (switch : Bool) (f : ℕ) (ts ms : List ℕ) (c : Chosen) (measured : B
     pub is : c.rule ≡ rule_of rule
     pub best : Best (concrete_only switch (any_mark ms)) (listing_of f) ts c.index rule
 
-  module _ (call : Call switch f ts ms (call_paper (Called c measured))) where
+  module _ (call : Call switch f ts ms (call_paper (Ok (record { chosen = c; measured = measured })))) where
     known : f < function_count
     known = go (dec_lt f function_count)
       where
@@ -62,15 +63,18 @@ module _ (switch : Bool) (f : ℕ) (ts ms : List ℕ) (c : Chosen) (measured : B
 
     -- the choice that it is the answer of
     by_choice : (d : Choice) → Says (concrete_only switch (any_mark ms)) (listing_of f) ts d
-        → call_paper (Called c measured) ≡ with_mark (any_mark ms) (answered d) → Accepted
+        → call_paper (Ok (record { chosen = c; measured = measured })) ≡ with_mark (any_mark ms) (answered d) → Accepted
     by_choice (chosen i r) best e =
-        let same : Called c measured ≡ Called record { index = i; rule = rule_of r } (any_mark ms) = call-one _ _ e in
-        let index : c.index ≡ i = cc in
+        let made : Called = record { chosen = record { index = i; rule = rule_of r }; measured = any_mark ms } in
+        let called : Called = record { chosen = c; measured = measured } in
+        let both : Ok called ≡ Ok made = call-one _ _ e in
+        let same : called ≡ made = cc in
+        let index : c.index ≡ i = ap (λ (x : Called). x.chosen.index) same in
         record {
           beside = ordered.beside;
-          mark = cc;
+          mark = ap (λ (x : Called). x.measured) same;
           rule = r;
-          is = cc;
+          is = ap (λ (x : Called). x.chosen.rule) same;
           best = subst (λ (k : ℕ). Best (concrete_only switch (any_mark ms)) (listing_of f) ts k r) (sym index) best;
         }
     by_choice wrong_count s e = accepted-refused e

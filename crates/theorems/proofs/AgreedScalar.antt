@@ -13,8 +13,8 @@ use Rattle.scalars.specs.Mask.{choose}
 use Rattle.scalars.specs.Domain.{converts, scalar_count}
 use Rattle.types.specs.Domain.{value?, scalar_part, first_unknown, other_type}
 use Rattle.scalars.specs.Paper.{Paper, accepted, refusal}
-use Rattle.types.specs.declared.conversion.Base.{Base}
-use Rattle.types.specs.declared.conversion.Base.TheVariants as base
+use Rattle.std.specs.Prelude.{Option, Some, None}
+use Rattle.scalars.specs.declared.scalar_set.Scalar.{Scalar}
 use Rattle.types.specs.Conversion.{none, combination, agree, agree_with_first, if_known_all, agreed}
 use Rattle.types.proofs.Combinations.{combination-known}
 use Rattle.theorems.specs.Known.{AllKnown, FirstUnknown}
@@ -23,17 +23,17 @@ use Rattle.theorems.proofs.Papers.{refused-not, other-number}
 use Rattle.theorems.proofs.Known.{all_known, first_unknown_lem, unknown-one, never-unknown}
 use Rattle.types.proofs.Conversions.{itself, alike, onwards, Joins, joins, joined}
 
-abbrev pub scalar : ℕ → Base
-scalar a = base.Scalar (record { 0 = a })
+abbrev pub scalar : ℕ → Option Scalar
+scalar a = Some (record { 0 = a })
 
-abbrev inside : Base → ℕ
-inside (base.Scalar a) = a.0
-inside base.Nothing = 0
+abbrev inside : Option Scalar → ℕ
+inside (Some a) = a.0
+inside None = 0
 
 pub same_base : (a c : ℕ) → scalar a ≡ scalar c → a ≡ c
 same_base a c e = ap inside e
 
-pub no_base : {A : Type 0} (a : ℕ) → base.Nothing ≡ scalar a → A
+pub no_base : {A : Type 0} (a : ℕ) → None ≡ scalar a → A
 no_base a e = let z : ◌≡◌ {A = ℕ} 0 1 = cc in absurd (omega arith)
 
 -- ---- a component more
@@ -129,7 +129,7 @@ module _ (best t : ℕ) (h : best < scalar_count) where
 
 -- ---- an answer to the components from the i-th on
 
-record AnswersFrom (i : ℕ) (b : Base) (ts : List ℕ) (r : Paper) : Type 0 where
+record AnswersFrom (i : ℕ) (b : Option Scalar) (ts : List ℕ) (r : Paper) : Type 0 where
   given : (s : ℕ) → r ≡ accepted (s ∷ []) ↔ Consensus b ts s
   refused : (m : ℕ) → r ≡ refusal 12 m (255 ∷ []) ↔ ((j : ℕ) × (m ≡ i + j) × Breaks b ts j)
   nothing : r ≡ refusal 11 0 (255 ∷ []) ↔ Nothing b ts
@@ -139,7 +139,7 @@ unlike : {A : Type 0} (t : ℕ) (ts : List ℕ) → t ∷ ts ≡ [] → A
 unlike t ts e = let z : ◌≡◌ {A = ℕ} 0 1 = cc in absurd (omega arith)
 
 -- where no list with this component in front has a consensus, the answer is refusal 12 there
-module _ (i : ℕ) (b : Base) (t : ℕ) (ts : List ℕ) (never : (us : List ℕ) (s : ℕ) → Consensus b (t ∷ us) s → ⊥)
+module _ (i : ℕ) (b : Option Scalar) (t : ℕ) (ts : List ℕ) (never : (us : List ℕ) (s : ℕ) → Consensus b (t ∷ us) s → ⊥)
     (before : ((s : ℕ) × Consensus b [] s) ⊎ Nothing b []) where
   stops : AnswersFrom i b (t ∷ ts) (refusal 12 i (255 ∷ []))
   stops =
@@ -162,7 +162,7 @@ module _ (i : ℕ) (b : Base) (t : ℕ) (ts : List ℕ) (never : (us : List ℕ)
       here m (suc j) e k = absurd (before_it j k.before)
 
 -- where this component in front makes c the base, the answer is that of the others
-module _ (i : ℕ) (b : Base) (t : ℕ) (ts : List ℕ) (c : ℕ) (h : c < scalar_count)
+module _ (i : ℕ) (b : Option Scalar) (t : ℕ) (ts : List ℕ) (c : ℕ) (h : c < scalar_count)
     (turn : (us : List ℕ) (s : ℕ) → Consensus b (t ∷ us) s ↔ Consensus (scalar c) us s) where
   broken-on : (j : ℕ) → Breaks (scalar c) ts j → Breaks b (t ∷ ts) (suc j)
   broken-on j k = record { there = omega (arith, k.there); before = go k.before; none = λ s w. k.none s ((turn (take (suc j) ts) s).0 w) }
@@ -236,16 +236,16 @@ with_base best i (t ∷ ts) h = valued (with_base c (suc i) ts) (value? t) refl
 -- ---- with no base, the first component is the base
 
 module _ (t : ℕ) (v : t < other_type) where
-  offered-first : (ts : List ℕ) (a : ℕ) → Offered (scalar (scalar_part t)) ts a → Offered base.Nothing (t ∷ ts) a
+  offered-first : (ts : List ℕ) (a : ℕ) → Offered (scalar (scalar_part t)) ts a → Offered None (t ∷ ts) a
   offered-first ts a (by_base e) = by_component 0 (omega arith, v, same_base (scalar_part t) a e)
   offered-first ts a (by_component k (l, w, e)) = by_component (suc k) (omega arith, w, e)
 
-  first-offered : (ts : List ℕ) (a : ℕ) → Offered base.Nothing (t ∷ ts) a → Offered (scalar (scalar_part t)) ts a
+  first-offered : (ts : List ℕ) (a : ℕ) → Offered None (t ∷ ts) a → Offered (scalar (scalar_part t)) ts a
   first-offered ts a (by_base e) = no_base a e
   first-offered ts a (by_component zero (l, w, e)) = by_base (ap scalar e)
   first-offered ts a (by_component (suc k) (l, w, e)) = by_component k (omega arith, w, e)
 
-  first-grown : (ts : List ℕ) (s : ℕ) → Consensus (scalar (scalar_part t)) ts s → Consensus base.Nothing (t ∷ ts) s
+  first-grown : (ts : List ℕ) (s : ℕ) → Consensus (scalar (scalar_part t)) ts s → Consensus None (t ∷ ts) s
   first-grown ts s k =
       record { offered = offered-first ts s k.offered; scalars = every; reached = λ a o. k.reached a (first-offered ts a o) }
     where
@@ -253,14 +253,14 @@ module _ (t : ℕ) (v : t < other_type) where
       every zero l = v
       every (suc i) l = k.scalars i (omega arith)
 
-  first-shrunk : (ts : List ℕ) (s : ℕ) → Consensus base.Nothing (t ∷ ts) s → Consensus (scalar (scalar_part t)) ts s
+  first-shrunk : (ts : List ℕ) (s : ℕ) → Consensus None (t ∷ ts) s → Consensus (scalar (scalar_part t)) ts s
   first-shrunk ts s k = record {
     offered = first-offered ts s k.offered;
     scalars = λ i l. k.scalars (suc i) (omega arith);
     reached = λ a o. k.reached a (offered-first ts a o);
   }
 
-without_base : (ts : List ℕ) → AnswersFrom 0 base.Nothing ts (agree_with_first ts)
+without_base : (ts : List ℕ) → AnswersFrom 0 None ts (agree_with_first ts)
 without_base [] =
     record {
       given = λ s. (refused-not, λ k. absurd (none-offered s k.offered));
@@ -269,31 +269,31 @@ without_base [] =
       known = λ p q. other-number q (λ e. omega arith);
     }
   where
-    none-offered : (s : ℕ) → Offered base.Nothing [] s → ⊥
+    none-offered : (s : ℕ) → Offered None [] s → ⊥
     none-offered s (by_base e) = no_base s e
     none-offered s (by_component k (l, v, e)) = omega arith
 without_base (t ∷ ts) = go (value? t) refl
   where
-    go : (x : Bool) → value? t ≡ x → AnswersFrom 0 base.Nothing (t ∷ ts) (choose x (agree (scalar_part t) 1 ts) (refusal 12 0 (255 ∷ [])))
+    go : (x : Bool) → value? t ≡ x → AnswersFrom 0 None (t ∷ ts) (choose x (agree (scalar_part t) 1 ts) (refusal 12 0 (255 ∷ [])))
     go true p =
         let v : t < other_type = ltb-true t other_type p in
-        goes 0 base.Nothing t ts (scalar_part t) (omega arith) (λ us s. (first-shrunk t v us s, first-grown t v us s)) _
+        goes 0 None t ts (scalar_part t) (omega arith) (λ us s. (first-shrunk t v us s, first-grown t v us s)) _
         (with_base (scalar_part t) 1 ts (omega arith))
     go false p =
-        stops 0 base.Nothing t ts
+        stops 0 None t ts
         (λ us s k. let v : t < other_type = k.scalars 0 (omega arith) in let w = ltb-false t other_type p in omega arith) (inr (refl, refl))
 
 -- ---- unknown codes, and known ones
 
 -- what is answered but for who gave the scalar
-pub record AgreedScalar (b : Base) (ts : List ℕ) (p : Paper) : Type 0 where
+pub record AgreedScalar (b : Option Scalar) (ts : List ℕ) (p : Paper) : Type 0 where
   pub unknown_base : p ≡ refusal 7 0 (255 ∷ []) ↔ UnknownBase b
   pub unknown_component : (i : ℕ) → p ≡ refusal 7 (1 + i) (255 ∷ []) ↔ (KnownBase b × FirstUnknown ts i)
   pub nothing : p ≡ refusal 11 0 (255 ∷ []) ↔ Nothing b ts
   pub agreement : (s : ℕ) → p ≡ accepted (s ∷ []) ↔ (KnownBase b × AllKnown ts × Consensus b ts s)
   pub broken : (i : ℕ) → p ≡ refusal 12 i (255 ∷ []) ↔ (KnownBase b × AllKnown ts × Breaks b ts i)
 
-module _ (b : Base) (ts : List ℕ) where
+module _ (b : Option Scalar) (ts : List ℕ) where
   base_unknown : (a : ℕ) → b ≡ scalar a → scalar_count ≤ a → AgreedScalar b ts (refusal 7 0 (255 ∷ []))
   base_unknown a e l =
       record {
@@ -342,13 +342,13 @@ module _ (b : Base) (ts : List ℕ) where
 
 -- ---- all of it
 
-pub agreed-exactly : (b : Base) (ts : List ℕ) → AgreedScalar b ts (agreed b ts)
+pub agreed-exactly : (b : Option Scalar) (ts : List ℕ) → AgreedScalar b ts (agreed b ts)
 unfolding agreed
-agreed-exactly base.Nothing ts = known_base base.Nothing ts (λ a e. no_base a e) (agree_with_first ts) (without_base ts)
-agreed-exactly (base.Scalar a) ts = go (ltb a.0 scalar_count) refl
+agreed-exactly None ts = known_base None ts (λ a e. no_base a e) (agree_with_first ts) (without_base ts)
+agreed-exactly (Some a) ts = go (ltb a.0 scalar_count) refl
   where
-    go : (y : Bool) → ltb a.0 scalar_count ≡ y → AgreedScalar (base.Scalar a) ts (choose y (if_known_all ts (255 ∷ []) (agree a.0 0 ts)) (refusal 7 0 (255 ∷ [])))
+    go : (y : Bool) → ltb a.0 scalar_count ≡ y → AgreedScalar (Some a) ts (choose y (if_known_all ts (255 ∷ []) (agree a.0 0 ts)) (refusal 7 0 (255 ∷ [])))
     go true e =
         let h : a.0 < scalar_count = ltb-true a.0 scalar_count e in
-        known_base (base.Scalar a) ts (λ c f. let z : a.0 ≡ c = same_base a.0 c f in omega arith) (agree a.0 0 ts) (with_base a.0 0 ts h)
-    go false e = base_unknown (base.Scalar a) ts a.0 refl (ltb-false a.0 scalar_count e)
+        known_base (Some a) ts (λ c f. let z : a.0 ≡ c = same_base a.0 c f in omega arith) (agree a.0 0 ts) (with_base a.0 0 ts h)
+    go false e = base_unknown (Some a) ts a.0 refl (ltb-false a.0 scalar_count e)

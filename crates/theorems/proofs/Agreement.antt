@@ -9,7 +9,7 @@ use native.Mathlib.Omega.{arith}
 use Rattle.scalars.specs.Mask.{choose}
 use Rattle.scalars.specs.Paper.{Paper, accepted}
 use Rattle.scalars.specs.declared.refusal.Refusal.TheVariants.{Unknown}
-use Rattle.scalars.specs.declared.answer.Verdict.TheVariants as verdict
+use Rattle.std.specs.Prelude.{Ok}
 use Rattle.rules.specs.Signature.{Signature}
 use Rattle.rules.specs.Rule.{rule_of}
 use Rattle.rules.specs.RulePaper.{rule_values}
@@ -86,7 +86,7 @@ agreement κs a x v e h steps c d p q =
     let r = a.0 in
     let l = list_of (regular_rules r) in
     let w = alike-first r h in
-    let f : x ≡ record { answer = verdict.Accepted; list = l } = list-one x (record { answer = verdict.Accepted; list = l }) (e ∙ expands r h.known h.few h.concludes) in
+    let f : x ≡ Ok l = list-one x (Ok l) (e ∙ expands r h.known h.few h.concludes) in
     let c-is : c ≡ leaves list kept steps l = list_left steps l w.tested c (subst (λ y. InTurn steps (list_answer y) c) f p) in
     let d-is : d ≡ leaves regular step_regular steps r = regular-left steps r w.known d q in
     rw (c-is, d-is) (agree steps steps l r w (λ s. inl s))

@@ -11,8 +11,8 @@ use Rattle.scalars.specs.Paper.{Paper, accepted, refusal, unused}
 use Rattle.types.specs.Domain.{value?, scalar_part, first_unknown}
 use Rattle.types.specs.TypePaper.{giver_values, no_consensus}
 use Rattle.types.specs.Conversion.{none, combination, agree, agree_with_first, if_known_all, agreed, giver_of, with_giver, consensus_of}
-use Rattle.types.specs.declared.conversion.Base.{Base}
-use Rattle.types.specs.declared.conversion.Base.TheVariants as base
+use Rattle.std.specs.Prelude.{Option, Some, None}
+use Rattle.scalars.specs.declared.scalar_set.Scalar.{Scalar}
 use Rattle.theorems.specs.Consensus.{Answers, without_giver, Theorem}
 use Rattle.theorems.proofs.Papers.{refused-not}
 use Rattle.theorems.proofs.AgreedScalar.{AgreedScalar, agreed-exactly}
@@ -43,10 +43,10 @@ first-single (t ∷ ts) = either-single (value? t) _ _ (agree-single (scalar_par
 known-single : (ts : List ℕ) (p : Paper) → Single p → Single (if_known_all ts (unused ∷ []) p)
 known-single ts p h = either-single (ltb (first_unknown ts) (length ts)) _ _ (no_scalar 7 (1 + first_unknown ts)) h
 
-agreed-single : (b : Base) (ts : List ℕ) → Single (agreed b ts)
+agreed-single : (b : Option Scalar) (ts : List ℕ) → Single (agreed b ts)
 unfolding agreed
-agreed-single base.Nothing ts = known-single ts (agree_with_first ts) (first-single ts)
-agreed-single (base.Scalar a) ts =
+agreed-single None ts = known-single ts (agree_with_first ts) (first-single ts)
+agreed-single (Some a) ts =
     either-single (ltb a.0 scalar_count) _ _ (known-single ts (agree a.0 0 ts) (agree-single a.0 0 ts)) (no_scalar 7 0)
 
 -- ---- with the giver
@@ -58,7 +58,7 @@ restated {n} {m} p q vs ws e =
     let g : p ≡ q = cc in
     ap₂ (λ (k l : ℕ). refusal k l ws) f g
 
-module _ (b : Base) (ts : List ℕ) where
+module _ (b : Option Scalar) (ts : List ℕ) where
   with_giver_lem : (p : Paper) → Single p → AgreedScalar b ts p → Answers b ts (with_giver (giver_of b ts) p)
   with_giver_lem p (one_scalar s) w =
       record {

@@ -22,7 +22,9 @@ use Rattle.expressions.specs.Reading.{Expression, read, refused_as, expression_o
 use Rattle.machine.specs.Line.{Line, encode}
 use Rattle.machine.specs.Machine.{run_bytes}
 use Rattle.machine.specs.Run.{ran_of}
-use Rattle.worksheet.specs.declared.typer.TypeAnswer.{TypeAnswer}
+use Rattle.std.specs.Prelude.{Result}
+use Rattle.scalars.specs.declared.refusal.Refusal.{Refusal}
+use Rattle.worksheet.specs.declared.typer.Typed as answer
 use Rattle.worksheet.specs.Typer.{Typed, typed, refused, type_of}
 use Rattle.worksheet.specs.Answer.{with_room, buffer_after}
 use Rattle.worksheet.specs.Typing.{after_reading, typing_of, typing, no_type, type_values, answer_of, type_paper}
@@ -115,7 +117,7 @@ module _ (switch : Bool) (s d : List ℕ) where
           let k : Spells s e = record { text = text; well_formed = formed } in
           either e k (demands e k).either_one
 
-  module _ (r : TypeAnswer) (d' : List ℕ) (answer : type_paper r ≡ answer_of (typing switch s d))
+  module _ (r : Result answer.Typed Refusal) (d' : List ℕ) (answer : type_paper r ≡ answer_of (typing switch s d))
       (buffer : d' ≡ buffer_after (typing switch s d) d) where
     answered : {x : Typed Operand} → typing switch s d ≡ x → type_paper r ≡ answer_of x
     answered q = answer ∙ ap answer_of q

@@ -12,17 +12,15 @@ use Rattle.scalars.specs.Domain.{scalar_count}
 use Rattle.types.specs.Domain.{last_code, constructor_count}
 use Rattle.scalars.specs.Mask.{both, cons_if, filter, every, bits}
 use Rattle.scalars.specs.Paper.{Paper, accepted, refusal, test_paper, count_paper}
-use Rattle.scalars.specs.declared.answer.Test.{Test}
-use Rattle.scalars.specs.declared.answer.Test.TheVariants as test
-use Rattle.scalars.specs.declared.answer.CountAnswer.TheVariants as count
+use Rattle.std.specs.Prelude.{Result, Ok, Err}
+use Rattle.scalars.specs.declared.refusal.Refusal.{Refusal}
 use Rattle.scalars.specs.declared.refusal.Refusal.TheVariants.{EmptySet}
 use Rattle.rules.specs.Signature.{Signature, fits, takes}
 use Rattle.rules.specs.Rule.{rule_of, passes}
 use Rattle.rules.proofs.Records.{typed?}
 use Rattle.rules.specs.RulePaper.{rule_values, no_rule, rule_paper}
 use Rattle.rules.specs.Verdict.{on_verdict, longest, count_of, empty_of}
-use Rattle.rules.specs.declared.rule.RuleAnswer.{RuleAnswer}
-use Rattle.rules.specs.declared.rule.RuleAnswer.TheVariants as rule
+use Rattle.rules.specs.declared.rule.Rule.{Rule}
 use Rattle.rules.specs.declared.rule.Part.TheVariants.{Shape, Number}
 use Rattle.rules.specs.declared.rule.Keep.{Keep}
 use Rattle.rules.specs.declared.rule.Keep.TheVariants.{Argument}
@@ -40,8 +38,7 @@ use Rattle.lists.specs.Entry.{Entry, number, keep}
 use Rattle.lists.specs.ChosenPaper.{chosen_paper, no_choice}
 use Rattle.lists.specs.List.{entries, listing, verdict_of, kept, preferred_of, list_preferred, list_count, list_empty}
 use Rattle.lists.specs.Expansion.{list_of}
-use Rattle.lists.specs.declared.list.ChosenAnswer.{ChosenAnswer}
-use Rattle.lists.specs.declared.list.ChosenAnswer.TheVariants as chosen
+use Rattle.lists.specs.declared.list.Chosen.{Chosen}
 use Rattle.lists.specs.declared.list.List as declared
 use Rattle.calls.specs.Choice.{first}
 use Rattle.calls.specs.Call.{answered}
@@ -113,9 +110,9 @@ abbrev pub empty_entries : List Entry → Paper
 empty_entries [] = accepted (1 ∷ [])
 empty_entries (x ∷ xs) = accepted (0 ∷ [])
 
-abbrev test_of : List Entry → Test
-test_of [] = test.Yes
-test_of (x ∷ xs) = test.No
+abbrev test_of : List Entry → Result Bool Refusal
+test_of [] = Ok true
+test_of (x ∷ xs) = Ok false
 
 test_of_lem : (s : List Entry) → test_paper (test_of s) ≡ empty_entries s
 test_of_lem [] = refl
@@ -133,9 +130,9 @@ abbrev first_rule : List Entry → Paper
 first_rule [] = refusal 1 0 no_rule
 first_rule (x ∷ xs) = accepted (rule_values (rule_of x.rule))
 
-abbrev rule_answer : List Entry → RuleAnswer
-rule_answer [] = rule.Refused (EmptySet 0)
-rule_answer (x ∷ xs) = rule.Rule (rule_of x.rule)
+abbrev rule_answer : List Entry → Result Rule Refusal
+rule_answer [] = Err (EmptySet 0)
+rule_answer (x ∷ xs) = Ok (rule_of x.rule)
 
 rule_answer_lem : (s : List Entry) → rule_paper (rule_answer s) ≡ first_rule s
 rule_answer_lem [] = refl
@@ -152,9 +149,9 @@ rule-answered r (x ∷ xs) vs = (
 )
 
 -- and with its index
-abbrev chosen_answer : List Entry → ChosenAnswer
-chosen_answer [] = chosen.Refused (EmptySet 0)
-chosen_answer (x ∷ xs) = chosen.Rule (record { index = x.index; rule = rule_of x.rule })
+abbrev chosen_answer : List Entry → Result Chosen Refusal
+chosen_answer [] = Err (EmptySet 0)
+chosen_answer (x ∷ xs) = Ok (record { index = x.index; rule = rule_of x.rule })
 
 chosen_answer_lem : (s : List Entry) → chosen_paper (chosen_answer s) ≡ answered (first s)
 chosen_answer_lem [] = refl
@@ -261,8 +258,8 @@ module _ (r : Regular) (able : Callable r) (some : 0 < length (regular_rules r))
 
   pub regular-means : Means (regular r) (regular_rules r)
   regular-means = record {
-    least = asked count_paper (regular_count r) _ regular_count_lem (count.Count (longest (regular_rules r))) refl;
-    most = asked count_paper (regular_count r) _ regular_count_lem (count.Count (longest (regular_rules r))) refl;
+    least = asked count_paper (regular_count r) _ regular_count_lem (Ok (longest (regular_rules r))) refl;
+    most = asked count_paper (regular_count r) _ regular_count_lem (Ok (longest (regular_rules r))) refl;
     empty = λ ks known p.
         both_ways (after-regular Empty ks r able.known known p)
         (asked test_paper (regular_empty (left-set ks)) _ (set-empty ks) (test_of (keeping ks (number 0 (regular_rules r))))
@@ -327,8 +324,8 @@ module _ (d : ListFunction) where
 
   list-means : Means (list whole) (listed_rules d)
   list-means = record {
-    least = asked count_paper (list_count whole) _ list_count_lem (count.Count (longest (listed_rules d))) refl;
-    most = asked count_paper (list_count whole) _ list_count_lem (count.Count (longest (listed_rules d))) refl;
+    least = asked count_paper (list_count whole) _ list_count_lem (Ok (longest (listed_rules d))) refl;
+    most = asked count_paper (list_count whole) _ list_count_lem (Ok (longest (listed_rules d))) refl;
     empty = λ ks known p.
         both_ways (after_list Empty ks whole tested known p)
         (asked test_paper (list_empty (left ks)) _ (left-empty ks) (test_of (keeping ks (number 0 (listed_rules d))))

@@ -10,10 +10,8 @@ use Rattle.scalars.specs.Mask.{choose, both}
 use Rattle.types.specs.Domain.{value?, scalar_part, other_type}
 use Rattle.types.specs.TypePaper.{by_base, by_component, giver_values}
 use Rattle.types.specs.Conversion.{first_of, giver_of}
-use Rattle.types.specs.declared.conversion.Base.{Base}
-use Rattle.types.specs.declared.conversion.Base.TheVariants as base
-use Rattle.types.specs.declared.conversion.Giver.{Giver}
-use Rattle.types.specs.declared.conversion.Giver.TheVariants as giver
+use Rattle.std.specs.Prelude.{Option, Some, None}
+use Rattle.scalars.specs.declared.scalar_set.Scalar.{Scalar}
 use Rattle.theorems.specs.Consensus as consensus
 use Rattle.theorems.specs.Consensus.{OfBase, OfComponent, Offered, Gave, the_base, the_first}
 use Rattle.theorems.proofs.AgreedScalar.{scalar, same_base, no_base}
@@ -63,15 +61,15 @@ module _ (ts : List ℕ) (a : ℕ) where
   not-both : {A : Type 0} (k : ℕ) → by_base ≡ by_component k → A
   not-both k e = let z : ◌≡◌ {A = ℕ} 0 1 = cc in absurd (omega arith)
 
-  the_base_lem : (b : Base) → OfBase b a → (g : Giver) → by_base ≡ giver_values g → Gave b ts a g
-  the_base_lem b e giver.Base q = the_base e
-  the_base_lem b e (giver.Component k) q = not-both k q
+  the_base_lem : (b : Option Scalar) → OfBase b a → (g : Option ℕ) → by_base ≡ giver_values g → Gave b ts a g
+  the_base_lem b e None q = the_base e
+  the_base_lem b e (Some k) q = not-both k q
 
-  the_first_lem : (b : Base) → (OfBase b a → ⊥) → Offered b ts a → (g : Giver) → by_component (first_of a ts) ≡ giver_values g → Gave b ts a g
-  the_first_lem b n o giver.Base q = not-both (first_of a ts) (sym q)
-  the_first_lem b n o (giver.Component k) q =
+  the_first_lem : (b : Option Scalar) → (OfBase b a → ⊥) → Offered b ts a → (g : Option ℕ) → by_component (first_of a ts) ≡ giver_values g → Gave b ts a g
+  the_first_lem b n o None q = not-both (first_of a ts) (sym q)
+  the_first_lem b n o (Some k) q =
       let e : first_of a ts ≡ k = cc in
-      let there : Gave b ts a (giver.Component (first_of a ts)) = the_first (first_of a ts) n (found o) (none_before a ts) in
+      let there : Gave b ts a (Some (first_of a ts)) = the_first (first_of a ts) n (found o) (none_before a ts) in
       rw e at there
     where
       found : Offered b ts a → OfComponent ts (first_of a ts) a
@@ -79,19 +77,19 @@ module _ (ts : List ℕ) (a : ℕ) where
       found (consensus.by_component j h) = first-is a ts j h
 
   -- the definition's giver of what is on offer gave it
-  pub gave : (b : Base) → Offered b ts a → (g : Giver) → giver_of b ts a ≡ giver_values g → Gave b ts a g
+  pub gave : (b : Option Scalar) → Offered b ts a → (g : Option ℕ) → giver_of b ts a ≡ giver_values g → Gave b ts a g
   unfolding giver_of
-  gave base.Nothing o g q = the_first_lem base.Nothing (λ e. no_base a e) o g q
-  gave (base.Scalar c) o g q = go (eqb c.0 a) refl q
+  gave None o g q = the_first_lem None (λ e. no_base a e) o g q
+  gave (Some c) o g q = go (eqb c.0 a) refl q
     where
-      go : (x : Bool) → eqb c.0 a ≡ x → choose x by_base (by_component (first_of a ts)) ≡ giver_values g → Gave (base.Scalar c) ts a g
-      go true p q = the_base_lem (base.Scalar c) (ap scalar (eqb-true c.0 a p)) g q
-      go false p q = the_first_lem (base.Scalar c) (λ e. eqb-false c.0 a p (same_base c.0 a e)) o g q
+      go : (x : Bool) → eqb c.0 a ≡ x → choose x by_base (by_component (first_of a ts)) ≡ giver_values g → Gave (Some c) ts a g
+      go true p q = the_base_lem (Some c) (ap scalar (eqb-true c.0 a p)) g q
+      go false p q = the_first_lem (Some c) (λ e. eqb-false c.0 a p (same_base c.0 a e)) o g q
 
   -- whoever gave it is the definition's giver
-  pub given_by : (b : Base) (g : Giver) → Gave b ts a g → giver_of b ts a ≡ giver_values g
+  pub given_by : (b : Option Scalar) (g : Option ℕ) → Gave b ts a g → giver_of b ts a ≡ giver_values g
   unfolding giver_of
-  given_by base.Nothing g (the_base e) = no_base a e
-  given_by base.Nothing g (the_first k n h m) = ap by_component (first_one a ts k h m)
-  given_by (base.Scalar c) g (the_base e) = simp (eq-eqb c.0 a (same_base c.0 a e))
-  given_by (base.Scalar c) g (the_first k n h m) = simp (ne_eqb c.0 a (λ e. n (ap scalar e))) (ap by_component (first_one a ts k h m))
+  given_by None g (the_base e) = no_base a e
+  given_by None g (the_first k n h m) = ap by_component (first_one a ts k h m)
+  given_by (Some c) g (the_base e) = simp (eq-eqb c.0 a (same_base c.0 a e))
+  given_by (Some c) g (the_first k n h m) = simp (ne_eqb c.0 a (λ e. n (ap scalar e))) (ap by_component (first_one a ts k h m))

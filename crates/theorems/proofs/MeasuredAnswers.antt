@@ -1,21 +1,21 @@
 -- No answer of `call_of`, `type_expression` or `run_worksheet` has a measured abstract operand, as specs/Measured.antt states it: by what demands
 -- 2 and 3 say of their contracts, and by what is proved of rules, of the typer and of the machine. Assumes nothing.
-use mathlib.Core.Path.{◌≡◌, refl, sym, ap, ◌∙◌}
+use mathlib.Core.Path.{◌≡◌, refl, sym, ap, ap₂, ◌∙◌}
 use mathlib.Core.Bool.{Bool, true, false, true≢false}
 use mathlib.Core.List.{List, [], ◌∷◌}
 use Prim.Native.Nat.{ℕ, ◌<◌}
 use native.Mathlib.Omega.{arith}
 use lib.ListN.{length}
-use Rattle.scalars.specs.Mask.{both}
+use Rattle.std.specs.Prelude.{Ok}
 use Rattle.scalars.specs.Paper.{accepted}
 use Rattle.types.specs.Domain.{is_abstract}
-use Rattle.types.specs.Operand.{measured_mark, mark_of, any_mark, concrete_only}
+use Rattle.types.specs.Operand.{mark_of, operand_of, measured_abstract, any_mark, concrete_only}
 use Rattle.types.specs.declared.operand.Operand.{Operand}
+use Rattle.types.proofs.Operands.{operand-back}
 use Rattle.rules.specs.Rule.{rule_of}
 use Rattle.functions.specs.Functions.{listing_of}
 use Rattle.lists.specs.declared.list.Chosen.{Chosen}
 use Rattle.calls.specs.CallPaper.{call_paper}
-use Rattle.calls.specs.declared.outcome.CallAnswer.TheVariants.{Called}
 use Rattle.machine.specs.Machine.{Outcome, ended, stopped, run_bytes}
 use Rattle.machine.specs.Run.{run_paper, ran_of}
 use Rattle.worksheet.specs.Typing.{type_paper}
@@ -29,11 +29,6 @@ use Rattle.theorems.proofs.Expressions.{demand_3}
 use Rattle.theorems.proofs.MeasuredRules.{of_functions}
 use Rattle.theorems.proofs.Measured.{measured_functions}
 
--- a mark of 1 is a measured operand's
-marked : (b : Bool) → measured_mark ≡ mark_of b → b ≡ true
-marked true e = refl
-marked false e = absurd (omega arith)
-
 -- ---- calls
 
 -- some operand is measured only where there is one
@@ -46,7 +41,7 @@ asks true b e = refl
 asks false b e = e
 
 -- the rule of a call with a measured result has arguments, none of them abstract
-called-concrete : (switch : Bool) (f : ℕ) (ts ms : List ℕ) (c : Chosen) → Call switch f ts ms (call_paper (Called c true))
+called-concrete : (switch : Bool) (f : ℕ) (ts ms : List ℕ) (c : Chosen) → Call switch f ts ms (call_paper (Ok (record { chosen = c; measured = true })))
     → is_abstract c.rule.result ≡ false
 unfolding rule_of ConcreteResults
 called-concrete switch f ts ms c call =
@@ -60,19 +55,21 @@ called-concrete switch f ts ms c call =
 
 -- ---- runs
 
+-- a mark is 0 or 1
+unmarked : (b : Bool) → mark_of b ≡ 255 → ⊥
+unmarked true e = let z : ◌≡◌ {A = ℕ} 1 255 = e in omega arith
+unmarked false e = let z : ◌≡◌ {A = ℕ} 0 255 = e in omega arith
+
 -- the topmost operand, where none on the stack is measured and abstract
-top_concrete : (o : Outcome) (n t : ℕ) → ((s : List Operand) → o ≡ ended s → NoneAbstract s)
-    → accepted (n ∷ t ∷ measured_mark ∷ []) ≡ ran_of o → is_abstract t ≡ false
-top_concrete (stopped k) n t none e = accepted-refused e
-top_concrete (ended []) n t none e = let z : ◌≡◌ {A = ℕ} measured_mark 255 = cc in absurd (omega arith)
-top_concrete (ended (o ∷ s)) n t none e =
-    let is : t ≡ o.code = cc in
-    let measured : o.measured ≡ true = marked o.measured cc in
-    ap is_abstract is ∙ real o.measured o.code measured (none (o ∷ s) refl).0
-  where
-    real : (b : Bool) (u : ℕ) → b ≡ true → both b (is_abstract u) ≡ false → is_abstract u ≡ false
-    real true u m h = h
-    real false u m h = absurd (true≢false (sym m))
+top_concrete : (x : Outcome) (n : ℕ) (o : Operand) → ((s : List Operand) → x ≡ ended s → NoneAbstract s)
+    → accepted (n ∷ o.code ∷ mark_of o.measured ∷ []) ≡ ran_of x → measured_abstract o ≡ false
+top_concrete (stopped k) n o none e = accepted-refused e
+top_concrete (ended []) n o none e = absurd (unmarked o.measured cc)
+top_concrete (ended (p ∷ s)) n o none e =
+    let code : o.code ≡ p.code = cc in
+    let mark : mark_of o.measured ≡ mark_of p.measured = cc in
+    let same : o ≡ p = sym (operand-back o) ∙ ap₂ operand_of code mark ∙ operand-back p in
+    ap measured_abstract same ∙ (none (p ∷ s) refl).0
 
 -- ---- all three
 
@@ -86,6 +83,6 @@ answers = record {
       let formed = given.spelt.well_formed in
       let typed = ((for_trees a.1.0 tree formed).accepted o ls).1 given.given in
       measured_functions.expression a.1.0 tree 0 formed.measurable o ls typed;
-  runs = λ κs a r s p n t e.
-      top_concrete (run_bytes listing_of a.0.now) n t (measured_functions.bytes a.0.now) (sym (ap run_paper e) ∙ p);
+  runs = λ κs a r s p n o e.
+      top_concrete (run_bytes listing_of a.0.now) n o (measured_functions.bytes a.0.now) (sym (ap run_paper e) ∙ p);
 }

@@ -1,14 +1,22 @@
 -- Each public function has one answer, as specs/OneAnswer.antt states it: its promise is an equation, of the answer or of its paper, and
 -- papers are one to one. Assumes nothing.
 use mathlib.Core.Path.{◌≡◌, refl, sym, ap, ap₂, ◌∙◌}
+use mathlib.Core.List.{[], ◌∷◌}
+use Prim.Native.Nat.{ℕ}
+use native.Mathlib.Omega.{arith}
+use lib.ListN.{length}
+use Rattle.std.specs.Prelude.{Option, Some, None, Result, Ok}
+use Rattle.scalars.specs.Walk.{OneBitsGive}
+use Rattle.scalars.specs.declared.one_bits_iter.OneBit.{OneBit}
+use Rattle.scalars.specs.declared.one_bits_iter.OneBitsIter.{OneBitsIter}
 use Rattle.scalars.specs.Mask.{sift}
-use Rattle.scalars.specs.Paper.{number, place}
+use Rattle.scalars.specs.Paper.{accepted, number, place, values}
 use Rattle.rules.specs.Rule.{passes}
 use Rattle.rules.specs.declared.rule.Part.TheVariants.{Number}
 use Rattle.rules.specs.declared.rule.Keep.TheVariants.{Argument}
 use Rattle.lists.specs.List.{signatures}
 use Rattle.lists.specs.declared.walks.BothSteps.{BothSteps}
-use Rattle.scalars.proofs.Papers.{refusal-one, walk-one, members-one, scalar-one, test-one, verdict_one, count-one}
+use Rattle.scalars.proofs.Papers.{refusal-one, members-one, scalar-one, test-one, verdict_one, count-one}
 use Rattle.types.proofs.TypePapers.{size-one, constructor-one, code_one, combination-one, consensus-one, leaf-one}
 use Rattle.theorems.proofs.ReadPapers.{read_one}
 use Rattle.rules.proofs.RulePapers.{listing-one, types-one, rule-one}
@@ -26,6 +34,21 @@ use Rattle.theorems.proofs.RunPapers.{run-one}
 use Rattle.theorems.proofs.TypedPapers.{type_one}
 use Rattle.theorems.specs.OneAnswer.{EachFunction}
 
+-- a step of a walk, and what is left of the walk
+step-one : (s : OneBitsIter) (x y : Option OneBit) (t u : OneBitsIter) → OneBitsGive s x t → OneBitsGive s y u → (x ≡ y) × (t ≡ u)
+step-one s (Some b) (Some d) t u p q =
+    let e : accepted (b.0 ∷ t.0 ∷ []) ≡ accepted (d.0 ∷ u.0 ∷ []) = p.1 ∙ sym q.1 in
+    let bit : b.0 ≡ d.0 = cc in
+    let rest : t.0 ≡ u.0 = cc in
+    (ap (λ (n : ℕ). Some (record { 0 = n })) bit, ap (λ (n : ℕ). record { 0 = n }) rest)
+step-one s (Some b) None t u p q = let z = ap (λ w. length (values w)) (p.1 ∙ sym q.1) in absurd (omega arith)
+step-one s None (Some d) t u p q = let z = ap (λ w. length (values w)) (p.1 ∙ sym q.1) in absurd (omega arith)
+step-one s None None t u p q = (refl, p.0.1 ∙ sym q.0.1)
+
+-- accepted values
+ok-one : {A E : Type 0} (x y : A) → ◌≡◌ {A = Result A E} (Ok x) (Ok y) → x ≡ y
+ok-one x y e = cc
+
 -- two sets of a List's rules
 both_one : (a b : BothSteps) → a.shaped.0 ≡ b.shaped.0 → a.left.0 ≡ b.left.0 → a ≡ b
 both_one a b shaped left = ap₂ (λ m n. record { shaped = record { 0 = m }; left = record { 0 = n } }) shaped left
@@ -33,10 +56,10 @@ both_one a b shaped left = ap₂ (λ m n. record { shaped = record { 0 = m }; le
 pub each-function : EachFunction
 each-function = record {
   -- scalars
-  «OneBitsIter::next» = λ κs a x y v w p q. (walk-one x y (p ∙ sym q), refl);
+  «OneBitsIter::next» = λ κs a x y v w p q. let e = step-one a.0.now x y v.0 w.0 p.0 q.0 in (e.0, ap (λ l. (l, tt)) e.1);
   «OneBit::number» = λ κs a x y v w p q. (ap (λ k. record { 0 = k }) (p ∙ sym q), refl);
-  «members_of» = λ κs a x y v w p q. (members-one x y (p ∙ sym q), refl);
-  «no_members» = λ κs a x y v w p q. (members-one x y (p ∙ sym q), refl);
+  «members_of» = λ κs a x y v w p q. (ok-one x y (members-one (Ok x) (Ok y) (p ∙ sym q)), refl);
+  «members_within» = λ κs a x y v w p q. (members-one x y (p.0 ∙ sym q.0), refl);
   «Refusal::number» = λ κs a x y v w p q. (p ∙ sym q, refl);
   «Refusal::place» = λ κs a x y v w p q. (p ∙ sym q, refl);
   «ScalarSet::singleton» = λ κs a x y v w p q. (ap (λ k. record { 0 = k }) (p ∙ sym q), refl);
@@ -72,8 +95,6 @@ each-function = record {
   -- rules
   «no_rules» = λ κs a x y v w p q. (p ∙ sym q, refl);
   «no_codes» = λ κs a x y v w p q. (p ∙ sym q, refl);
-  «no_listing» = λ κs a x y v w p q. (listing-one x y (p ∙ sym q), refl);
-  «no_types» = λ κs a x y v w p q. (types-one x y (p ∙ sym q), refl);
   «Rule::checked» = λ κs a x y v w p q. (rule-one x y (p ∙ sym q), refl);
   «Rule::known» = λ κs a x y v w p q. (p ∙ sym q, refl);
   «Rule::cleaned» = λ κs a x y v w p q. (p ∙ sym q, refl);
@@ -96,6 +117,8 @@ each-function = record {
   «Regular::rule_of» = λ κs a x y v w p q. (rule-one x y (p ∙ sym q), refl);
   «Regular::overload_list» = λ κs a x y v w p q. (listing-one x y (p ∙ sym q), refl);
   «Regular::allowed_args» = λ κs a x y v w p q. (types-one x y (p ∙ sym q), refl);
+  «ConclusionRule::try_from» = λ κs a x y v w p q. (p ∙ sym q, refl);
+  «u8::from» = λ κs a x y v w p q. (p ∙ sym q, refl);
   -- functions
   «rule_at» = λ κs a x y v w p q. (rule-one x y (p ∙ sym q), refl);
   «rule_count» = λ κs a x y v w p q. (p ∙ sym q, refl);
@@ -133,6 +156,7 @@ each-function = record {
   «outcome_of» = λ κs a x y v w p q. (outcome-one x y (p ∙ sym q), refl);
   «survivors_of» = λ κs a x y v w p q. (survivors-one x y (p ∙ sym q), refl);
   «full_list» = λ κs a x y v w p q. (p ∙ sym q, refl);
+  «Refusal::from» = λ κs a x y v w p q. (let e = p ∙ sym q in refusal-one x y (ap number e) (ap place e), refl);
   «none_left» = λ κs a x y v w p q. (refusal-one x y (ap number (p ∙ sym q)) (ap place (p ∙ sym q)), refl);
   -- lending
   «lend_bytes» = λ κs a x y v w p q. (verdict_one x y (p.0 ∙ sym q.0), ap (λ l. (tt, (l, tt))) (p.1 ∙ sym q.1));
@@ -149,26 +173,27 @@ each-function = record {
   «read_text» = λ κs a x y v w p q. (text-one x y (p.0 ∙ sym q.0), ap (λ l. (tt, (l, tt))) (p.1 ∙ sym q.1));
   «write_text» = λ κs a x y v w p q. (text-one x y (p.0 ∙ sym q.0), ap (λ l. (tt, (l, tt))) (p.1 ∙ sym q.1));
   -- c_sets
-  «list_arg» = λ κs a x y v w p q. (list-one x y (p ∙ sym q), refl);
-  «list_concrete_only» = λ κs a x y v w p q. (list-one x y (p ∙ sym q), refl);
-  «list_preferred» = λ κs a x y v w p q. (chosen-one x y (p ∙ sym q), refl);
+  «ListParts::arg» = λ κs a x y v w p q. (list-one x y (p ∙ sym q), refl);
+  «ListParts::concrete_only» = λ κs a x y v w p q. (list-one x y (p ∙ sym q), refl);
+  «ListParts::preferred» = λ κs a x y v w p q. (chosen-one x y (p ∙ sym q), refl);
   «rules_in» = λ κs a x y v w p q. (p ∙ sym q, refl);
-  «regular_from» = λ κs a x y v w p q. (regular-one x y (p ∙ sym q), refl);
-  «regular_arg» = λ κs a x y v w p q. (regular-one x y (p ∙ sym q), refl);
-  «regular_concrete_only» = λ κs a x y v w p q. (regular-one x y (p ∙ sym q), refl);
-  «regular_preferred» = λ κs a x y v w p q. (rule-one x y (p ∙ sym q), refl);
-  «regular_rule» = λ κs a x y v w p q. (rule-one x y (p ∙ sym q), refl);
+  «RegularParts::set» = λ κs a x y v w p q. (regular-one x y (p ∙ sym q), refl);
+  «RegularParts::arg» = λ κs a x y v w p q. (regular-one x y (p ∙ sym q), refl);
+  «RegularParts::concrete_only» = λ κs a x y v w p q. (regular-one x y (p ∙ sym q), refl);
+  «RegularParts::preferred» = λ κs a x y v w p q. (rule-one x y (p ∙ sym q), refl);
+  «RegularParts::rule» = λ κs a x y v w p q. (rule-one x y (p ∙ sym q), refl);
   -- machine
   «run_worksheet» = λ κs a x y v w p q. (run-one x y (p ∙ sym q), refl);
   -- worksheet
   «type_expression» = λ κs a x y v w p q. (type_one x y (p.0 ∙ sym q.0), ap (λ l. (tt, (tt, (l, tt)))) (p.1 ∙ sym q.1));
   -- c_answers
-  «chosen_for_c» = λ κs a x y v w p q. (p ∙ sym q, refl);
-  «call_for_c» = λ κs a x y v w p q. (p ∙ sym q, refl);
-  «rule_for_c» = λ κs a x y v w p q. (p ∙ sym q, refl);
-  «regular_for_c» = λ κs a x y v w p q. (p ∙ sym q, refl);
-  «consensus_for_c» = λ κs a x y v w p q. (p ∙ sym q, refl);
-  «mask_for_c» = λ κs a x y v w p q. (p ∙ sym q, refl);
+  «ChosenForC::from::Chosen» = λ κs a x y v w p q. (p ∙ sym q, refl);
+  «ChosenForC::from::Called» = λ κs a x y v w p q. (p ∙ sym q, refl);
+  «RuleForC::from» = λ κs a x y v w p q. (p ∙ sym q, refl);
+  «RegularForC::from» = λ κs a x y v w p q. (p ∙ sym q, refl);
+  «ConsensusForC::from» = λ κs a x y v w p q. (p ∙ sym q, refl);
+  «TextForC::from» = λ κs a x y v w p q. (p ∙ sym q, refl);
+  «MaskForC::from» = λ κs a x y v w p q. (p ∙ sym q, refl);
   -- azwukran
   «azwukran_list_arg_shape» = λ κs a x y v w p q. (p.0 ∙ sym q.0, ap (λ l. (tt, (tt, (tt, (tt, (l, tt)))))) (p.1 ∙ sym q.1));
   «azwukran_list_arg_number» = λ κs a x y v w p q. (p.0 ∙ sym q.0, ap (λ l. (tt, (tt, (tt, (tt, (l, tt)))))) (p.1 ∙ sym q.1));

@@ -5,24 +5,19 @@ use mathlib.Core.Logic.{◌↔◌}
 use mathlib.Core.Bool.{Bool, true, false}
 use mathlib.Core.List as L
 use mathlib.Core.List.{[], ◌∷◌}
-use lib.ListN.{replicate}
+use Rattle.std.specs.Prelude.{Result, Ok, Err}
 use Rattle.scalars.specs.Mask.{choose, every}
 use Rattle.scalars.specs.Paper.{Paper, accepted, refusal}
 use Rattle.scalars.specs.declared.refusal.Refusal.{Refusal}
 use Rattle.scalars.specs.declared.refusal.Refusal.TheVariants.{Unknown}
-use Rattle.scalars.specs.declared.answer.Verdict.TheVariants as verdict
 use Rattle.rules.specs.declared.rule.Keep.{Keep}
 use Rattle.rules.specs.declared.rule.Keep.TheVariants.{Argument, Concrete}
 use Rattle.regular.specs.private.Tested.{Known}
 use Rattle.regular.specs.SetPaper.{regular_values, no_set, regular_paper}
 use Rattle.regular.specs.declared.regular.Regular.{Regular}
-use Rattle.regular.specs.declared.regular.RegularAnswer.{RegularAnswer}
-use Rattle.regular.specs.declared.regular.RegularAnswer.TheVariants as answer
-use Rattle.lists.specs.ChosenPaper.{list_values, list_paper}
-use Rattle.rules.specs.Rule.{blank_rule}
-use Rattle.lists.specs.List.{most_rules, accepted_list, no_list_values, kept}
+use Rattle.lists.specs.ChosenPaper.{list_values, no_list_values, list_paper}
+use Rattle.lists.specs.List.{accepted_list, kept}
 use Rattle.lists.specs.declared.list.List.{List}
-use Rattle.lists.specs.declared.list.ListAnswer.{ListAnswer}
 use Rattle.scalars.proofs.Filters.{both_left, both_right}
 use Rattle.regular.proofs.SetPapers.{regular-one}
 use Rattle.theorems.proofs.ChosenPapers.{list-one}
@@ -46,43 +41,40 @@ abbrev pub step_answer : Keep → Set → Answer
 step_answer k s = choose (known_step k) (set s) (refused (Unknown 0))
 
 module _ (k : Keep) (r : Regular) (h : Known r) where
-  regular-is : (x : RegularAnswer) → regular_paper x ≡ ask_regular k r → regular_answer x ≡ step_answer k (regular (step_regular k r))
+  regular-is : (x : Result Regular Refusal) → regular_paper x ≡ ask_regular k r → regular_answer x ≡ step_answer k (regular (step_regular k r))
   regular-is x q = go (known_step k) (q ∙ asked-regular k r h)
     where
       go : (b : Bool) → regular_paper x ≡ choose b (accepted (regular_values (step_regular k r))) (refusal 7 0 no_set)
           → regular_answer x ≡ choose b (set (regular (step_regular k r))) (refused (Unknown 0))
-      go true e = ap regular_answer (regular-one x (answer.Set (step_regular k r)) e)
-      go false e = ap regular_answer (regular-one x (answer.Refused (Unknown 0)) e)
+      go true e = ap regular_answer (regular-one x (Ok (step_regular k r)) e)
+      go false e = ap regular_answer (regular-one x (Err (Unknown 0)) e)
 
   regular-so : Answer_of regular_answer (λ x. regular_paper x ≡ ask_regular k r) (step_answer k (regular (step_regular k r)))
   regular-so = go (known_step k) (asked-regular k r h)
     where
       go : (b : Bool) → ask_regular k r ≡ choose b (accepted (regular_values (step_regular k r))) (refusal 7 0 no_set)
           → Answer_of regular_answer (λ x. regular_paper x ≡ ask_regular k r) (choose b (set (regular (step_regular k r))) (refused (Unknown 0)))
-      go true e = (answer.Set (step_regular k r), sym e, refl)
-      go false e = (answer.Refused (Unknown 0), sym e, refl)
-
-abbrev no_list : List
-no_list = record { rules = replicate most_rules blank_rule; len = 0; members = 0 }
+      go true e = (Ok (step_regular k r), sym e, refl)
+      go false e = (Err (Unknown 0), sym e, refl)
 
 module _ (k : Keep) (l : List) (t : Tested l) where
-  list-is : (x : ListAnswer) → list_paper x ≡ ask_list k l → list_answer x ≡ step_answer k (list (kept k l))
-  unfolding accepted_list no_list_values
+  list-is : (x : Result List Refusal) → list_paper x ≡ ask_list k l → list_answer x ≡ step_answer k (list (kept k l))
+  unfolding accepted_list
   list-is x q = go (known_step k) (q ∙ asked-list k l t)
     where
-      go : (b : Bool) → list_paper x ≡ choose b (accepted (list_values (kept k l))) (refusal 7 0 (list_values no_list))
+      go : (b : Bool) → list_paper x ≡ choose b (accepted (list_values (kept k l))) (refusal 7 0 no_list_values)
           → list_answer x ≡ choose b (set (list (kept k l))) (refused (Unknown 0))
-      go true e = ap list_answer (list-one x (record { answer = verdict.Accepted; list = kept k l }) e)
-      go false e = ap list_answer (list-one x (record { answer = verdict.Refused (Unknown 0); list = no_list }) e)
+      go true e = ap list_answer (list-one x (Ok (kept k l)) e)
+      go false e = ap list_answer (list-one x (Err (Unknown 0)) e)
 
   list-so : Answer_of list_answer (λ x. list_paper x ≡ ask_list k l) (step_answer k (list (kept k l)))
-  unfolding accepted_list no_list_values
+  unfolding accepted_list
   list-so = go (known_step k) (asked-list k l t)
     where
-      go : (b : Bool) → ask_list k l ≡ choose b (accepted (list_values (kept k l))) (refusal 7 0 (list_values no_list))
+      go : (b : Bool) → ask_list k l ≡ choose b (accepted (list_values (kept k l))) (refusal 7 0 no_list_values)
           → Answer_of list_answer (λ x. list_paper x ≡ ask_list k l) (choose b (set (list (kept k l))) (refused (Unknown 0)))
-      go true e = (record { answer = verdict.Accepted; list = kept k l }, sym e, refl)
-      go false e = (record { answer = verdict.Refused (Unknown 0); list = no_list }, sym e, refl)
+      go true e = (Ok (kept k l), sym e, refl)
+      go false e = (Err (Unknown 0), sym e, refl)
 
 regular-step : (k : Keep) (r : Regular) → Known r → (a : Answer) → Step k (regular r) a → a ≡ step_answer k (regular (step_regular k r))
 regular-step (Argument part i t) r h a (x, q, e) = e ∙ regular-is (Argument part i t) r h x q

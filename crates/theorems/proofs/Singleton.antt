@@ -15,11 +15,9 @@ use lib.Pow.{pow_pos}
 use lib.ListN.{length}
 use Rattle.scalars.specs.Mask.{cons_if, odd, select, count_from, bits, mask_of}
 use Rattle.scalars.specs.OneBits.{step_of}
-use Rattle.scalars.specs.Paper.{walk_paper}
+use Rattle.std.specs.Prelude.{Option}
+use Rattle.scalars.specs.Paper.{accepted, walk_paper}
 use Rattle.scalars.specs.declared.one_bits_iter.OneBit.{OneBit}
-use Rattle.scalars.specs.declared.one_bits_iter.OneBitsIter.{OneBitsIter}
-use Rattle.scalars.specs.declared.one_bits_iter.BitStep.{BitStep}
-use Rattle.scalars.specs.declared.one_bits_iter.BitStep.TheVariants.{Bit}
 use Rattle.scalars.proofs.Masks.{half_lt, half_pos, two, trailing_part}
 use Rattle.scalars.proofs.Bits.{bits-next, bits-count, bits-lowest, mask-bits}
 use Rattle.scalars.proofs.Walks.{taken}
@@ -151,9 +149,9 @@ module _ (w m : ℕ) (h : m < 2 ^ w) where
   }
 
 -- a step to a bit leaves what m and m − 1 have in common
-behind : (m : ℕ) {s : BitStep} (b : OneBit) (left : OneBitsIter) → m < 2 ^ 64 → s ≡ Bit b left → walk_paper s ≡ step_of (bits 64 m) → left.0 ≡ bit_and m (m - 1)
-behind m b left h e p =
-    let t = taken m h e p refl in
+behind : (m b left : ℕ) → m < 2 ^ 64 → accepted (b ∷ left ∷ []) ≡ step_of (bits 64 m) → left ≡ bit_and m (m - 1)
+behind m b left h p =
+    let t = taken m h p refl in
     t.rest ∙ ap (λ (k : ℕ). m - 2 ^ k) (t.number ∙ bits-lowest 64 m h) ∙ sym (masked 64 m t.some h)
 
 pub singleton : Theorem
@@ -164,5 +162,6 @@ singleton = record {
     λ y. (exactly-one 16 a.0.0).0 (eqb-true (length (bits 16 a.0.0)) 1 (sym p ∙ y)),
     λ o. p ∙ eq-eqb (length (bits 16 a.0.0)) 1 ((exactly-one 16 a.0.0).1 o),
   );
-  walked = λ κs a r v p b left h e. behind a.0.0 b left h e p;
+  walked = λ κs a r v p b h e.
+      behind a.0.now.0 b.0 v.0.0 h (sym (ap (λ (x : Option OneBit). walk_paper x v.0) e) ∙ p.0.1);
 }

@@ -18,7 +18,8 @@ use Rattle.functions.specs.Functions.{function_count}
 use Rattle.expressions.specs.Tree.{Tree, Trees, leaf, call, none, more, bytes_of, bytes_of_all, nodes, nodes_all}
 use Rattle.expressions.specs.Reading.{Expression, read, refused_as, expression_of}
 use Rattle.expressions.proofs.Answers.{accepted-refused}
-use Rattle.text.specs.declared.answer.TextAnswer.{TextAnswer}
+use Rattle.std.specs.Prelude.{Result}
+use Rattle.scalars.specs.declared.refusal.Refusal.{Refusal}
 use Rattle.text.specs.Grammar.{most_bytes, Spells}
 use Rattle.text.specs.Lent.{lent_answer, lent_buffer}
 use Rattle.text.specs.Reading.{reading}
@@ -42,7 +43,7 @@ mutual
   few_bytes-all (more e es) = omega (arith, length-append (bytes_of e) (bytes_of_all es), few_bytes e, few_bytes-all es)
 
 -- what a promise on a lent buffer says, x being what was read
-module _ (wanted : Tree → List ℕ) (x : Expression) (d : List ℕ) (r : TextAnswer) (d' : List ℕ)
+module _ (wanted : Tree → List ℕ) (x : Expression) (d : List ℕ) (r : Result ℕ Refusal) (d' : List ℕ)
     (answer : text_paper r ≡ lent_answer wanted x (length d)) (buffer : d' ≡ lent_buffer wanted x d) where
   answered : {y : Expression} → x ≡ y → text_paper r ≡ lent_answer wanted y (length d)
   answered h = answer ∙ ap (λ y. lent_answer wanted y (length d)) h
@@ -130,7 +131,7 @@ module _ (wanted : Tree → List ℕ) (x : Expression) (d : List ℕ) (r : TextA
         kept = kept;
       }
 
-module _ (s d : List ℕ) (r : TextAnswer) (d' : List ℕ)
+module _ (s d : List ℕ) (r : Result ℕ Refusal) (d' : List ℕ)
     (answer : text_paper r ≡ lent_answer bytes_of (reading s) (length d)) (buffer : d' ≡ lent_buffer bytes_of (reading s) d) where
   -- what reads back a text of a tree whose bytes fit
   reads-back : (e : Tree) → reading s ≡ read e → (b : List ℕ) → bytes_of e ≡ b → length b ≤ length d
@@ -169,7 +170,7 @@ module _ (s d : List ℕ) (r : TextAnswer) (d' : List ℕ)
         numbers = λ n p h. numbers n p (why bytes_of (reading s) d r d' answer buffer n p h);
       }
 
-module _ (b d : List ℕ) (r : TextAnswer) (d' : List ℕ)
+module _ (b d : List ℕ) (r : Result ℕ Refusal) (d' : List ℕ)
     (answer : text_paper r ≡ lent_answer text_of (expression_of function_count b) (length d))
     (buffer : d' ≡ lent_buffer text_of (expression_of function_count b) d) where
   abbrev first : Expression

@@ -13,7 +13,7 @@ use Rattle.functions.proofs.Database.{four-arguments}
 use Rattle.lists.specs.declared.list.Chosen.{Chosen}
 use Rattle.calls.specs.CallPaper.{call_paper}
 use Rattle.calls.specs.SurvivorsPaper.{survivors_paper}
-use Rattle.calls.specs.declared.outcome.CallAnswer.TheVariants.{Called}
+use Rattle.std.specs.Prelude.{Ok}
 use Rattle.theorems.specs.Taking.{Taken, Survive}
 use Rattle.theorems.specs.Calls.{Call}
 use Rattle.theorems.specs.Wgsl.{over_wgsl, Outranks, Ranked}
@@ -22,7 +22,7 @@ use Rattle.theorems.proofs.Calls.{demand_2}
 use Rattle.theorems.proofs.AcceptedCalls.{accepted-call}
 use Rattle.theorems.proofs.WgslFunctions.{preferred-is_wgsl, ties}
 
-by_rank : (switch : Bool) (f : ℕ) (ts ms : List ℕ) (c : Chosen) (measured : Bool) (m : ℕ) → Call switch f ts ms (call_paper (Called c measured))
+by_rank : (switch : Bool) (f : ℕ) (ts ms : List ℕ) (c : Chosen) (measured : Bool) (m : ℕ) → Call switch f ts ms (call_paper (Ok (record { chosen = c; measured = measured })))
     → Survive (concrete_only switch (any_mark ms)) (listing_of f) ts m → over_wgsl ts ≡ true → CallByRank f ts c m
 unfolding Ranked
 by_rank switch f ts ms c measured m call survive w =

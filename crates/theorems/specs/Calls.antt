@@ -18,7 +18,7 @@
 --
 -- The survivors of a call are the rules of the full listing that take the operands, and the call's rule is the first of them. Where a
 -- call is refused its survivors are refused alike, and conversely.
-use Rattle.std.specs.Prelude.{◌≡◌, ◌↔◌, Bool, true, false, List, [], ◌∷◌, ◌++◌, ℕ, suc, ◌+◌, ◌≤◌, ◌<◌, min, length, get_or, take}
+use Rattle.std.specs.Prelude.{◌≡◌, ◌↔◌, Bool, true, false, List, [], ◌∷◌, ◌++◌, ℕ, suc, ◌+◌, ◌≤◌, ◌<◌, min, length, get_or, take, Result}
 use Rattle.scalars.specs.Mask.{select}
 use Rattle.scalars.specs.Paper.{Paper, accepted, refusal}
 use Rattle.types.specs.Operand.{any_mark, concrete_only}
@@ -33,7 +33,8 @@ use Rattle.functions.specs.declared.mathfunction.FunctionSet.TheVariants as func
 use Rattle.lists.specs.Entry.{number}
 use Rattle.lists.specs.ChosenPaper.{no_choice}
 use Rattle.lists.specs.declared.list.List as declared
-use Rattle.calls.specs.declared.outcome.CallAnswer.{CallAnswer}
+use Rattle.scalars.specs.declared.refusal.Refusal.{Refusal}
+use Rattle.calls.specs.declared.outcome.Called.{Called}
 use Rattle.calls.specs.Choice.{Choice, first}
 use Rattle.theorems.specs.Taking.{Survive, Says}
 use Rattle.calls.specs.Call.{answered, with_mark}
@@ -124,5 +125,5 @@ pub record Theorem : Type 0 where
   pub calls : Promises single.call_of.ended single_proofs.call_of.Reads.Post
       (λ κs a r s. Call a.1.1.1.0 a.0 a.1.0.now a.1.1.0.now (call_paper r))
   pub survivors : Promises single.survivors_of.ended single_proofs.survivors_of.Reads.Post
-      (λ κs a q s. (r : CallAnswer) → single_proofs.call_of.Reads.Post κs a r s
+      (λ κs a q s. (r : Result Called Refusal) → single_proofs.call_of.Reads.Post κs a r s
       → Survivors a.1.1.1.0 a.0 a.1.0.now a.1.1.0.now (call_paper r) (survivors_paper q))

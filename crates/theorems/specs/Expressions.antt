@@ -9,7 +9,7 @@
 -- answer is refused exactly when s is the bytes of no well-formed expression, or of one in which some call has no rule for the number,
 -- types and marks of its operands. Where d has too little room for what s gives, the answer is refusal 10, at the bytes needed; 508
 -- bytes always suffice. On every refusal d' is d.
-use Rattle.std.specs.Prelude.{◌≡◌, ◌↔◌, ◌⊎◌, Bool, List, [], ◌∷◌, ◌++◌, ℕ, ◌≤◌, ◌<◌, length, take, drop}
+use Rattle.std.specs.Prelude.{◌≡◌, ◌↔◌, ◌⊎◌, Bool, List, [], ◌∷◌, ◌++◌, ℕ, ◌≤◌, ◌<◌, length, take, drop, Result}
 use Rattle.scalars.specs.Paper as paper
 use Rattle.types.specs.Operand.{mark_of}
 use Rattle.types.specs.declared.operand.Operand.{Operand}
@@ -20,7 +20,8 @@ use Rattle.machine.specs.Line.{Line, encode}
 use Rattle.machine.specs.Run.{run_paper}
 use Rattle.machine.specs.contracts as machine
 use Rattle.machine.proofs as machine_proofs
-use Rattle.worksheet.specs.declared.typer.TypeAnswer.{TypeAnswer}
+use Rattle.scalars.specs.declared.refusal.Refusal.{Refusal}
+use Rattle.worksheet.specs.declared.typer.Typed.{Typed}
 use Rattle.worksheet.specs.private.Sheet.{enough_bytes}
 use Rattle.worksheet.specs.Typing.{no_type, type_values, type_paper}
 use Rattle.theorems.specs.Meaning.{order, own_of, Gives, Stuck}
@@ -50,7 +51,7 @@ module _ (switch : Bool) (s d : List ℕ) where
     pub runs : Promises machine.run_worksheet.ended machine_proofs.run_worksheet.Reads.Post
         (λ κs a q _. a.0.now ≡ take (length (encode ls)) d' → run_paper q ≡ paper.accepted (1 ∷ o.code ∷ mark_of o.measured ∷ []))
 
-  pub record Demand3 (r : TypeAnswer) (d' : List ℕ) : Type 0 where
+  pub record Demand3 (r : Result Typed Refusal) (d' : List ℕ) : Type 0 where
     pub accepted : (o : Operand) (n : ℕ) → type_paper r ≡ paper.accepted (type_values o n)
         ↔ ((e : Tree) × (ls : List Line) × Giving e o ls × Room ls × (length (encode ls) ≡ n))
     pub worksheet : (e : Tree) (o : Operand) (ls : List Line) → Giving e o ls → Room ls → Worksheet d' e o ls

@@ -10,11 +10,11 @@
 --
 -- And so of the functions, whatever answers their contracts permit: no call of `call_of` has a measured abstract result, `type_expression`
 -- announces no such operand, and `run_worksheet` ends with none on top.
-use Rattle.std.specs.Prelude.{◌≡◌, Bool, true, false, List, [], ◌∷◌, ℕ, ◌<◌, length}
+use Rattle.std.specs.Prelude.{◌≡◌, Bool, true, false, List, [], ◌∷◌, ℕ, ◌<◌, length, Ok, Some}
 use Rattle.std.proofs.Math.Option.{some}
 use Rattle.std.proofs.Math.ListN.{get_elem?}
 use Rattle.types.specs.Domain.{is_abstract}
-use Rattle.types.specs.Operand.{measured_mark, measured_abstract}
+use Rattle.types.specs.Operand.{measured_abstract}
 use Rattle.types.specs.declared.operand.Operand.{Operand}
 use Rattle.rules.specs.Signature.{Signature, concrete}
 use Rattle.functions.specs.Functions.{listing_of}
@@ -24,9 +24,6 @@ use Rattle.machine.specs.Line.{Line}
 use Rattle.machine.specs.Machine.{ended, step, run_by, run_bytes}
 use Rattle.worksheet.specs.Typer.{typed, type_of, type_all}
 use Rattle.lists.specs.declared.list.Chosen.{Chosen}
-use Rattle.calls.specs.declared.outcome.CallAnswer.TheVariants.{Called}
-use Rattle.worksheet.specs.declared.typer.TypeAnswer.TheVariants.{Typed}
-use Rattle.machine.specs.declared.machine.Run.TheVariants.{Ended}
 use Rattle.calls.specs.contracts as single
 use Rattle.calls.proofs as single_proofs
 use Rattle.worksheet.specs.contracts as worksheet
@@ -70,8 +67,8 @@ OfFunctions = ConcreteResults listing_of
 -- the functions
 pub record Answers : Type 0 where
   pub calls : Promises single.call_of.ended single_proofs.call_of.Reads.Post
-      (λ κs a r s. (c : Chosen) → r ≡ Called c true → is_abstract c.rule.result ≡ false)
+      (λ κs a r s. (c : Chosen) → r ≡ Ok (record { chosen = c; measured = true }) → is_abstract c.rule.result ≡ false)
   pub expressions : Promises worksheet.type_expression.ended worksheet_proofs.type_expression.Reads.Post
-      (λ κs a r s. (o : Operand) (n : ℕ) → r ≡ Typed o n → measured_abstract o ≡ false)
+      (λ κs a r s. (o : Operand) (n : ℕ) → r ≡ Ok (record { result = o; len = n }) → measured_abstract o ≡ false)
   pub runs : Promises machine.run_worksheet.ended machine_proofs.run_worksheet.Reads.Post
-      (λ κs a r s. (n t : ℕ) → r ≡ Ended n t measured_mark → is_abstract t ≡ false)
+      (λ κs a r s. (n : ℕ) (o : Operand) → r ≡ Ok (record { operands = n; top = Some o }) → measured_abstract o ≡ false)

@@ -35,6 +35,8 @@ use Rattle.lists.specs.contracts.list as list
 use Rattle.lists.proofs.list as list_proofs
 use Rattle.calls.specs.contracts as calls
 use Rattle.calls.proofs as calls_proofs
+use Rattle.calls.specs.contracts.outcome as outcome
+use Rattle.calls.proofs.outcome as outcome_proofs
 use Rattle.lending.specs.contracts as lending
 use Rattle.lending.proofs as lending_proofs
 use Rattle.names.specs.contracts as names
@@ -43,12 +45,16 @@ use Rattle.text.specs.contracts as text
 use Rattle.text.proofs as text_proofs
 use Rattle.c_sets.specs.contracts as c_sets
 use Rattle.c_sets.proofs as c_sets_proofs
+use Rattle.c_sets.specs.contracts.list_parts as list_parts
+use Rattle.c_sets.proofs.list_parts as list_parts_proofs
+use Rattle.c_sets.specs.contracts.regular_parts as regular_parts
+use Rattle.c_sets.proofs.regular_parts as regular_parts_proofs
 use Rattle.machine.specs.contracts as machine
 use Rattle.machine.proofs as machine_proofs
 use Rattle.worksheet.specs.contracts as worksheet
 use Rattle.worksheet.proofs as worksheet_proofs
-use Rattle.c_answers.specs.contracts as c_answers
-use Rattle.c_answers.proofs as c_answers_proofs
+use Rattle.c_answers.specs.contracts.from_answers as from_answers
+use Rattle.c_answers.proofs.from_answers as from_answers_proofs
 use Rattle.azwukran.specs.contracts as azwukran
 use Rattle.azwukran.proofs as azwukran_proofs
 
@@ -61,10 +67,10 @@ OneAnswer T post =
 -- each public function, by crate
 pub record EachFunction : Type 0 where
   -- scalars
-  pub «OneBitsIter::next» : OneAnswer one_bits_iter.OneBitsIter.next.ended one_bits_iter_proofs.OneBitsIter.next.Reads.Post
+  pub «OneBitsIter::next» : OneAnswer one_bits_iter.OneBitsIterIterator.next.ended one_bits_iter_proofs.OneBitsIterIterator.next.Reads.Post
   pub «OneBit::number» : OneAnswer one_bits_iter.OneBit.number.ended one_bits_iter_proofs.OneBit.number.Reads.Post
   pub «members_of» : OneAnswer scalars.members_of.ended scalars_proofs.members_of.Reads.Post
-  pub «no_members» : OneAnswer scalars.no_members.ended scalars_proofs.no_members.Reads.Post
+  pub «members_within» : OneAnswer scalars.members_within.ended scalars_proofs.members_within.Reads.Post
   pub «Refusal::number» : OneAnswer refusal.Refusal.number.ended refusal_proofs.Refusal.number.Reads.Post
   pub «Refusal::place» : OneAnswer refusal.Refusal.place.ended refusal_proofs.Refusal.place.Reads.Post
   pub «ScalarSet::singleton» : OneAnswer scalar_set.ScalarSet.singleton.ended scalar_set_proofs.ScalarSet.singleton.Reads.Post
@@ -100,8 +106,6 @@ pub record EachFunction : Type 0 where
   -- rules
   pub «no_rules» : OneAnswer rules.no_rules.ended rules_proofs.no_rules.Reads.Post
   pub «no_codes» : OneAnswer rules.no_codes.ended rules_proofs.no_codes.Reads.Post
-  pub «no_listing» : OneAnswer rules.no_listing.ended rules_proofs.no_listing.Reads.Post
-  pub «no_types» : OneAnswer rules.no_types.ended rules_proofs.no_types.Reads.Post
   pub «Rule::checked» : OneAnswer rule.Rule.checked.ended rule_proofs.Rule.checked.Reads.Post
   pub «Rule::known» : OneAnswer rule.Rule.known.ended rule_proofs.Rule.known.Reads.Post
   pub «Rule::cleaned» : OneAnswer rule.Rule.cleaned.ended rule_proofs.Rule.cleaned.Reads.Post
@@ -124,6 +128,8 @@ pub record EachFunction : Type 0 where
   pub «Regular::rule_of» : OneAnswer regular.Regular.rule_of.ended regular_proofs.Regular.rule_of.Reads.Post
   pub «Regular::overload_list» : OneAnswer regular.Regular.overload_list.ended regular_proofs.Regular.overload_list.Reads.Post
   pub «Regular::allowed_args» : OneAnswer regular.Regular.allowed_args.ended regular_proofs.Regular.allowed_args.Reads.Post
+  pub «ConclusionRule::try_from» : OneAnswer regular.ConclusionRuleTryFromU8.try_from.ended regular_proofs.ConclusionRuleTryFromU8.try_from.Reads.Post
+  pub «u8::from» : OneAnswer regular.U8FromConclusionRule.from.ended regular_proofs.U8FromConclusionRule.from.Reads.Post
   -- functions
   pub «rule_at» : OneAnswer functions.rule_at.ended functions_proofs.rule_at.Reads.Post
   pub «rule_count» : OneAnswer functions.rule_count.ended functions_proofs.rule_count.Reads.Post
@@ -161,6 +167,7 @@ pub record EachFunction : Type 0 where
   pub «outcome_of» : OneAnswer calls.outcome_of.ended calls_proofs.outcome_of.Reads.Post
   pub «survivors_of» : OneAnswer calls.survivors_of.ended calls_proofs.survivors_of.Reads.Post
   pub «full_list» : OneAnswer calls.full_list.ended calls_proofs.full_list.Reads.Post
+  pub «Refusal::from» : OneAnswer outcome.RefusalFromNoRule.from.ended outcome_proofs.RefusalFromNoRule.from.Reads.Post
   pub «none_left» : OneAnswer calls.none_left.ended calls_proofs.none_left.Reads.Post
   -- lending
   pub «lend_bytes» : OneAnswer lending.lend_bytes.ended lending_proofs.lend_bytes.Reads.Post
@@ -181,26 +188,27 @@ pub record EachFunction : Type 0 where
   pub «read_text» : OneAnswer text.read_text.ended text_proofs.read_text.Reads.Post
   pub «write_text» : OneAnswer text.write_text.ended text_proofs.write_text.Reads.Post
   -- c_sets
-  pub «list_arg» : OneAnswer c_sets.list_arg.ended c_sets_proofs.list_arg.Reads.Post
-  pub «list_concrete_only» : OneAnswer c_sets.list_concrete_only.ended c_sets_proofs.list_concrete_only.Reads.Post
-  pub «list_preferred» : OneAnswer c_sets.list_preferred.ended c_sets_proofs.list_preferred.Reads.Post
+  pub «ListParts::arg» : OneAnswer list_parts.ListParts.arg.ended list_parts_proofs.ListParts.arg.Reads.Post
+  pub «ListParts::concrete_only» : OneAnswer list_parts.ListParts.concrete_only.ended list_parts_proofs.ListParts.concrete_only.Reads.Post
+  pub «ListParts::preferred» : OneAnswer list_parts.ListParts.preferred.ended list_parts_proofs.ListParts.preferred.Reads.Post
   pub «rules_in» : OneAnswer c_sets.rules_in.ended c_sets_proofs.rules_in.Reads.Post
-  pub «regular_from» : OneAnswer c_sets.regular_from.ended c_sets_proofs.regular_from.Reads.Post
-  pub «regular_arg» : OneAnswer c_sets.regular_arg.ended c_sets_proofs.regular_arg.Reads.Post
-  pub «regular_concrete_only» : OneAnswer c_sets.regular_concrete_only.ended c_sets_proofs.regular_concrete_only.Reads.Post
-  pub «regular_preferred» : OneAnswer c_sets.regular_preferred.ended c_sets_proofs.regular_preferred.Reads.Post
-  pub «regular_rule» : OneAnswer c_sets.regular_rule.ended c_sets_proofs.regular_rule.Reads.Post
+  pub «RegularParts::set» : OneAnswer regular_parts.RegularParts.set.ended regular_parts_proofs.RegularParts.set.Reads.Post
+  pub «RegularParts::arg» : OneAnswer regular_parts.RegularParts.arg.ended regular_parts_proofs.RegularParts.arg.Reads.Post
+  pub «RegularParts::concrete_only» : OneAnswer regular_parts.RegularParts.concrete_only.ended regular_parts_proofs.RegularParts.concrete_only.Reads.Post
+  pub «RegularParts::preferred» : OneAnswer regular_parts.RegularParts.preferred.ended regular_parts_proofs.RegularParts.preferred.Reads.Post
+  pub «RegularParts::rule» : OneAnswer regular_parts.RegularParts.rule.ended regular_parts_proofs.RegularParts.rule.Reads.Post
   -- machine
   pub «run_worksheet» : OneAnswer machine.run_worksheet.ended machine_proofs.run_worksheet.Reads.Post
   -- worksheet
   pub «type_expression» : OneAnswer worksheet.type_expression.ended worksheet_proofs.type_expression.Reads.Post
   -- c_answers
-  pub «chosen_for_c» : OneAnswer c_answers.chosen_for_c.ended c_answers_proofs.chosen_for_c.Reads.Post
-  pub «call_for_c» : OneAnswer c_answers.call_for_c.ended c_answers_proofs.call_for_c.Reads.Post
-  pub «rule_for_c» : OneAnswer c_answers.rule_for_c.ended c_answers_proofs.rule_for_c.Reads.Post
-  pub «regular_for_c» : OneAnswer c_answers.regular_for_c.ended c_answers_proofs.regular_for_c.Reads.Post
-  pub «consensus_for_c» : OneAnswer c_answers.consensus_for_c.ended c_answers_proofs.consensus_for_c.Reads.Post
-  pub «mask_for_c» : OneAnswer c_answers.mask_for_c.ended c_answers_proofs.mask_for_c.Reads.Post
+  pub «ChosenForC::from::Chosen» : OneAnswer from_answers.ChosenForCFromResultChosenRefusal.from.ended from_answers_proofs.ChosenForCFromResultChosenRefusal.from.Reads.Post
+  pub «ChosenForC::from::Called» : OneAnswer from_answers.ChosenForCFromResultCalledRefusal.from.ended from_answers_proofs.ChosenForCFromResultCalledRefusal.from.Reads.Post
+  pub «RuleForC::from» : OneAnswer from_answers.RuleForCFromResultRuleRefusal.from.ended from_answers_proofs.RuleForCFromResultRuleRefusal.from.Reads.Post
+  pub «RegularForC::from» : OneAnswer from_answers.RegularForCFromResultRegularRefusal.from.ended from_answers_proofs.RegularForCFromResultRegularRefusal.from.Reads.Post
+  pub «ConsensusForC::from» : OneAnswer from_answers.ConsensusForCFromResultConsensusRefusal.from.ended from_answers_proofs.ConsensusForCFromResultConsensusRefusal.from.Reads.Post
+  pub «TextForC::from» : OneAnswer from_answers.TextForCFromResultUsizeRefusal.from.ended from_answers_proofs.TextForCFromResultUsizeRefusal.from.Reads.Post
+  pub «MaskForC::from» : OneAnswer from_answers.MaskForCFromResultUnitRefusal.from.ended from_answers_proofs.MaskForCFromResultUnitRefusal.from.Reads.Post
   -- azwukran
   pub «azwukran_list_arg_shape» : OneAnswer azwukran.azwukran_list_arg_shape.ended azwukran_proofs.azwukran_list_arg_shape.Reads.Post
   pub «azwukran_list_arg_number» : OneAnswer azwukran.azwukran_list_arg_number.ended azwukran_proofs.azwukran_list_arg_number.Reads.Post

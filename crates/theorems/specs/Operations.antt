@@ -1,19 +1,14 @@
 -- The operations on an overload set of either kind, by their contracts: which answers each may give.
-use Rattle.std.specs.Prelude.{◌≡◌, [], ◌∷◌}
+use Rattle.std.specs.Prelude.{◌≡◌, [], ◌∷◌, Result, Ok, Err}
 use mathlib.Core.List as L
 use Rattle.scalars.specs.Paper.{Paper, test_paper, count_paper}
 use Rattle.scalars.specs.declared.refusal.Refusal.{Refusal}
-use Rattle.scalars.specs.declared.answer.Verdict.{Verdict}
-use Rattle.scalars.specs.declared.answer.Verdict.TheVariants as verdict
 use Rattle.rules.specs.RulePaper.{rule_paper, listing_paper}
 use Rattle.rules.specs.declared.rule.Keep.{Keep}
 use Rattle.rules.specs.declared.rule.Keep.TheVariants.{Argument, Concrete}
 use Rattle.regular.specs.declared.regular.Regular.{Regular}
-use Rattle.regular.specs.declared.regular.RegularAnswer.{RegularAnswer}
-use Rattle.regular.specs.declared.regular.RegularAnswer.TheVariants as answer
 use Rattle.lists.specs.ChosenPaper.{chosen_paper}
 use Rattle.lists.specs.declared.list.List.{List}
-use Rattle.lists.specs.declared.list.ListAnswer.{ListAnswer}
 use Rattle.regular.proofs.regular.Regular as of_set
 use Rattle.lists.proofs.list.List as of_list
 
@@ -58,16 +53,13 @@ pub data Answer : Type 0 where
   set : Set → Answer
   refused : Refusal → Answer
 
-abbrev pub regular_answer : RegularAnswer → Answer
-regular_answer (answer.Set r) = set (regular r)
-regular_answer (answer.Refused why) = refused why
+abbrev pub regular_answer : Result Regular Refusal → Answer
+regular_answer (Ok r) = set (regular r)
+regular_answer (Err why) = refused why
 
-abbrev pub beside_list : List → Verdict → Answer
-beside_list l verdict.Accepted = set (list l)
-beside_list l (verdict.Refused why) = refused why
-
-abbrev pub list_answer : ListAnswer → Answer
-list_answer x = beside_list x.list x.answer
+abbrev pub list_answer : Result List Refusal → Answer
+list_answer (Ok l) = set (list l)
+list_answer (Err why) = refused why
 
 abbrev pub Answer_of : {A : Type 0} → (A → Answer) → (A → Type 0) → Answer → Type 0
 Answer_of {A = A} answer permitted a = (x : A) × permitted x × (a ≡ answer x)

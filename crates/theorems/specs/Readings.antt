@@ -6,13 +6,12 @@
 -- * Document 02's (v), the refusals of a measured leaf and of a measured operand, and a measured call: `measured_asked` and `measured_paper`.
 -- * The tests of the Rust's `one_bits_iter.rs`: `walked` asks what `OneBitsIter::next` and `OneBit::number` promise, and `tested` is what
 --   the tests expect; a row for the masks that the walk yields, one after the other to its end, and a row for their numbers.
-use Rattle.std.specs.Prelude.{false, List, [], ◌∷◌, map, ℕ, zero, suc, ◌-◌, ◌^◌, length, replicate}
+use Rattle.std.specs.Prelude.{false, List, [], ◌∷◌, map, ℕ, zero, suc, ◌-◌, ◌^◌, length, replicate, Option, Some, None}
 use Rattle.scalars.specs.Mask.{bits, up_to, head_or}
 use Rattle.scalars.specs.OneBits.{step_of}
 use Rattle.scalars.specs.Paper.{Paper, number, place, values, value}
 use Rattle.types.specs.Conversion.{consensus_of}
-use Rattle.types.specs.declared.conversion.Base.{Base}
-use Rattle.types.specs.declared.conversion.Base.TheVariants as base
+use Rattle.scalars.specs.declared.scalar_set.Scalar.{Scalar}
 use Rattle.functions.specs.Functions.{function_count, listing_of}
 use Rattle.calls.specs.Call.{call_of, survivors_of_call}
 use Rattle.worksheet.specs.private.Sheet.{enough_bytes}
@@ -33,7 +32,7 @@ abbrev surviving : ℕ → List ℕ → List ℕ
 surviving f ts = row (0 ∷ []) (survivors_of_call function_count listing_of false f ts (replicate (length ts) 0))
 
 -- the scalar, and who gave it
-abbrev consensus : Base → List ℕ → List ℕ
+abbrev consensus : Option Scalar → List ℕ → List ℕ
 consensus b ts = row (0 ∷ 1 ∷ 2 ∷ []) (consensus_of b ts)
 
 -- the type
@@ -49,7 +48,7 @@ asked =
     ∷ called 32 (8 ∷ 9 ∷ []) ∷ typed_as (1 ∷ 32 ∷ 2 ∷ 1 ∷ 66 ∷ 2 ∷ 0 ∷ 1 ∷ 0 ∷ 1 ∷ 0 ∷ 9 ∷ [])
     ∷ surviving 72 (8 ∷ 8 ∷ 8 ∷ []) ∷ called 72 (8 ∷ 8 ∷ 8 ∷ []) ∷ called 72 (20 ∷ 20 ∷ 8 ∷ [])
     ∷ called 74 (61 ∷ [])
-    ∷ consensus base.Nothing (0 ∷ 5 ∷ 1 ∷ []) ∷ consensus base.Nothing (0 ∷ 8 ∷ 1 ∷ []) ∷ consensus (base.Scalar (record { 0 = 1 })) (2 ∷ [])
+    ∷ consensus None (0 ∷ 5 ∷ 1 ∷ []) ∷ consensus None (0 ∷ 8 ∷ 1 ∷ []) ∷ consensus (Some (record { 0 = 1 })) (2 ∷ [])
     ∷ typed_as [] ∷ typed_as (0 ∷ 156 ∷ [])
     ∷ []
 

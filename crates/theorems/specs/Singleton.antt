@@ -9,12 +9,10 @@
 -- * `ConstructorSet::is_singleton` says yes exactly when its mask of 16 bits has exactly one member.
 -- * `OneBitsIter::next` leaves, behind the bit that it takes, what m and m − 1 have in common: in naga it is the walk that subtracts and
 --   masks.
-use Rattle.std.specs.Prelude.{◌≡◌, ◌↔◌, true, ℕ, ◌-◌, ◌^◌, ◌<◌}
+use Rattle.std.specs.Prelude.{◌≡◌, ◌↔◌, true, ℕ, ◌-◌, ◌^◌, ◌<◌, Some}
 use Rattle.std.specs.Int.Bits.{bit_and}
 use Rattle.std.specs.Int.Count.{ones}
 use Rattle.scalars.specs.declared.one_bits_iter.OneBit.{OneBit}
-use Rattle.scalars.specs.declared.one_bits_iter.OneBitsIter.{OneBitsIter}
-use Rattle.scalars.specs.declared.one_bits_iter.BitStep.TheVariants.{Bit}
 use Rattle.scalars.specs.contracts.one_bits_iter as one_bits_iter
 use Rattle.scalars.proofs.one_bits_iter as one_bits_iter_proofs
 use Rattle.types.specs.contracts.constructor_set as constructor_set
@@ -54,5 +52,5 @@ pub record Theorem : Type 0 where
       Promises constructor_set.ConstructorSet.is_singleton.ended constructor_set_proofs.ConstructorSet.is_singleton.Reads.Post
       (λ κs a r s. r ≡ true ↔ OneMember 16 a.0.0)
   pub walked :
-      Promises one_bits_iter.OneBitsIter.next.ended one_bits_iter_proofs.OneBitsIter.next.Reads.Post
-      (λ κs a r s. (b : OneBit) (left : OneBitsIter) → a.0.0 < 2 ^ 64 → r ≡ Bit b left → left.0 ≡ bit_and a.0.0 (a.0.0 - 1))
+      Promises one_bits_iter.OneBitsIterIterator.next.ended one_bits_iter_proofs.OneBitsIterIterator.next.Reads.Post
+      (λ κs a r s. (b : OneBit) → a.0.now.0 < 2 ^ 64 → r ≡ Some b → s.0.now.0 ≡ bit_and a.0.now.0 (a.0.now.0 - 1))

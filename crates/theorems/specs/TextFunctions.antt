@@ -11,13 +11,13 @@
 --   every refusal d' is d.
 -- * There and back. Where `write_text` has accepted b, any answer that the promise of `read_text` permits for the text in d' and a buffer of
 --   at least the length of b is accepted with the length of b, and the buffer then begins with b.
-use Rattle.std.specs.Prelude.{◌≡◌, ◌↔◌, ◌⊎◌, List, [], ◌∷◌, ◌++◌, ℕ, ◌*◌, ◌≤◌, ◌<◌, length, take, drop}
+use Rattle.std.specs.Prelude.{◌≡◌, ◌↔◌, ◌⊎◌, List, [], ◌∷◌, ◌++◌, ℕ, ◌*◌, ◌≤◌, ◌<◌, length, take, drop, Result}
 use Rattle.scalars.specs.Paper.{unused}
 use Rattle.scalars.specs.Paper as paper
 use Rattle.functions.specs.Functions.{function_count}
 use Rattle.expressions.specs.Tree.{Tree, bytes_of, most_nodes}
 use Rattle.expressions.specs.Reading.{read, refused_as, expression_of}
-use Rattle.text.specs.declared.answer.TextAnswer.{TextAnswer}
+use Rattle.scalars.specs.declared.refusal.Refusal.{Refusal}
 use Rattle.text.specs.Grammar.{most_bytes, Spells}
 use Rattle.text.specs.TextPaper.{text_paper}
 use Rattle.text.specs.Writing.{text_of}
@@ -27,14 +27,14 @@ use Rattle.theorems.specs.ByContract.{Promises}
 use Rattle.theorems.specs.Texts.{FirstFault}
 
 -- what is wanted of a tree, its bytes or its text, goes into the lent buffer d, where the tree is the one that is given
-pub record Lends (Given : Tree → Type 0) (wanted : Tree → List ℕ) (d : List ℕ) (r : TextAnswer) (d' : List ℕ) : Type 0 where
+pub record Lends (Given : Tree → Type 0) (wanted : Tree → List ℕ) (d : List ℕ) (r : Result ℕ Refusal) (d' : List ℕ) : Type 0 where
   pub accepted : (n : ℕ) → text_paper r ≡ paper.accepted (n ∷ []) ↔ ((e : Tree) × Given e × (length (wanted e) ≡ n) × (n ≤ length d))
   pub in_front : (e : Tree) → Given e → length (wanted e) ≤ length d → d' ≡ wanted e ++ drop (length (wanted e)) d
   pub short : (e : Tree) → Given e → length d < length (wanted e) → text_paper r ≡ paper.refusal 10 (length (wanted e)) (unused ∷ [])
   pub kept : (n p : ℕ) → text_paper r ≡ paper.refusal n p (unused ∷ []) → d' ≡ d
 
 -- the text s is read
-pub record Reads (s d : List ℕ) (r : TextAnswer) (d' : List ℕ) : Type 0 where
+pub record Reads (s d : List ℕ) (r : Result ℕ Refusal) (d' : List ℕ) : Type 0 where
   pub lends : Lends (Spells s) bytes_of d r d'
   pub suffices : 3 * most_nodes ≤ length d → (e : Tree) → Spells s e → length (bytes_of e) ≤ length d
   pub faulty : length s ≤ most_bytes → ((e : Tree) → Spells s e → ⊥)
@@ -43,7 +43,7 @@ pub record Reads (s d : List ℕ) (r : TextAnswer) (d' : List ℕ) : Type 0 wher
   pub numbers : (n p : ℕ) → text_paper r ≡ paper.refusal n p (unused ∷ []) → (n ≡ 9) ⊎ (n ≡ 10) ⊎ (n ≡ 14) ⊎ (n ≡ 15)
 
 -- the bytes b are written
-pub record Writes (b d : List ℕ) (r : TextAnswer) (d' : List ℕ) : Type 0 where
+pub record Writes (b d : List ℕ) (r : Result ℕ Refusal) (d' : List ℕ) : Type 0 where
   pub lends : Lends (λ e. expression_of function_count b ≡ read e) text_of d r d'
   pub suffices : 33 * most_nodes ≤ length d → (e : Tree) → expression_of function_count b ≡ read e → length (text_of e) ≤ length d
   pub within : (e : Tree) → expression_of function_count b ≡ read e → length (text_of e) ≤ most_bytes

@@ -5,16 +5,15 @@
 -- * No survivor over WGSL's scalars ranks at most as high for every operand and lower for one.
 -- * Each survivor over WGSL's scalars is the very same rule, or the call's rule outranks it; at a second index the same rule stands only in
 --   Mix, which lists its scalar rules twice. So by WGSL's ranks no call is ambiguous.
-use Rattle.std.specs.Prelude.{◌≡◌, Bool, true, List, ◌⊎◌, ℕ}
+use Rattle.std.specs.Prelude.{◌≡◌, Bool, true, List, ◌⊎◌, ℕ, Result, Ok}
 use Rattle.std.proofs.Math.Option.{some}
 use Rattle.std.proofs.Math.ListN.{get_elem?}
 use Rattle.rules.specs.Signature.{Signature}
 use Rattle.rules.specs.Rule.{arguments_of, signature_of}
 use Rattle.functions.specs.Functions.{listing_of}
+use Rattle.scalars.specs.declared.refusal.Refusal.{Refusal}
 use Rattle.lists.specs.declared.list.Chosen.{Chosen}
-use Rattle.calls.specs.declared.outcome.CallAnswer.{CallAnswer}
-use Rattle.calls.specs.declared.outcome.CallAnswer.TheVariants.{Called}
-use Rattle.calls.specs.declared.call.Survivors.TheVariants.{Members}
+use Rattle.calls.specs.declared.outcome.Called.{Called}
 use Rattle.calls.specs.contracts as single
 use Rattle.calls.proofs as single_proofs
 use Rattle.theorems.specs.ByContract.{Promises}
@@ -63,5 +62,5 @@ pub record CallByRank (f : ℕ) (ts : List ℕ) (c : Chosen) (m : ℕ) : Type 0 
 abbrev pub Answers : Type 0
 Answers =
     Promises single.survivors_of.ended single_proofs.survivors_of.Reads.Post
-    (λ κs a q s. (r : CallAnswer) → single_proofs.call_of.Reads.Post κs a r s → over_wgsl a.1.0.now ≡ true
-    → (c : Chosen) (measured : Bool) → r ≡ Called c measured → (m : ℕ) → q ≡ Members m → CallByRank a.0 a.1.0.now c m)
+    (λ κs a q s. (r : Result Called Refusal) → single_proofs.call_of.Reads.Post κs a r s → over_wgsl a.1.0.now ≡ true
+    → (c : Chosen) (measured : Bool) → r ≡ Ok (record { chosen = c; measured = measured }) → (m : ℕ) → q ≡ Ok (record { 0 = m }) → CallByRank a.0 a.1.0.now c m)

@@ -7,19 +7,21 @@
 // keeping it.
 #![tactic(auto)]
 
-ghost use Rattle.std.specs.Prelude.{◌≡◌, ◌≤◌, length};
-ghost use Rattle.worksheet.specs.private.Sheet.{enough_bytes};
+ghost use Rattle.std.specs.Prelude.{◌≤◌, length, IfOk};
 
 use expressions::MEASURED_LEAF;
 use input::read_full;
 use scalars::{Refusal, UNUSED};
 use std::io;
-use std::io::{Print, Stdin};
-use text::{TextAnswer, read_text};
-use worksheet::{ENOUGH_BYTES, TypeAnswer, type_expression};
+use std::io::Print;
+use text::read_text;
+use worksheet::{ENOUGH_BYTES, Typed, type_expression};
 
 // The most bytes of the input that are kept.
 const MOST_KEPT: usize = 65536;
+
+// Room for the bytes of any text.
+const MOST_BYTES: usize = 4096;
 
 // The bytes of a line.
 const LINE: usize = 4;
@@ -27,115 +29,45 @@ const LINE: usize = 4;
 fn main(rt: HostRuntime) -> io::Result<()> {
     let mut space = [0; MOST_KEPT];
     let n = read_full(&mut rt.stdin(), &mut space)?;
-    skip_rest(rt.stdin())?;
-    let mut sheet = room();
+    io::copy(&mut rt.stdin(), &mut io::sink())?;
+    let mut sheet = [0; ENOUGH_BYTES];
     answer(&rt, &space[..n], &mut sheet)
 }
 
-// Types the input, in either form, into the sheet and prints what came out.
+// Types the input and prints what came out.
 fn answer(out: &impl Print, input: &[u8], sheet: &mut [u8]) -> io::Result<()> {
-    if is_text(input) {
-        let mut bytes = [0; 4096];
-        return answer_text(out, input, &mut bytes, sheet);
+    match typed(input, sheet) {
+        Ok(typed) => {
+            println!(out; "0 0 {}", typed.result.code)?;
+            print_sheet(out, &sheet[..typed.len])
+        }
+        Err(why) => println!(out; "{why} {UNUSED}"),
     }
-    answer_bytes(out, input, sheet)
+}
+
+// Types the input, in either form, into the sheet.
+fn typed(input: &[u8], sheet: &mut [u8]) -> Result<Typed, Refusal>
+    ensures { IfOk result (λ t. t.len ≤ length sheet.new) }
+{
+    if !is_text(input) {
+        return type_expression(input, false, sheet);
+    }
+    let mut bytes = [0; MOST_BYTES];
+    let len = read_text(input, &mut bytes)?;
+    type_expression(&bytes[..len], false, sheet)
 }
 
 // Whether an input is a text: no tag of an expression's first byte begins it.
 fn is_text(input: &[u8]) -> bool {
-    if input.len() == 0 {
-        return false;
-    }
-    MEASURED_LEAF < input[0]
-}
-
-// Reads a text into the bytes, which always suffice, and types those.
-fn answer_text(
-    out: &impl Print,
-    text: &[u8],
-    bytes: &mut [u8],
-    sheet: &mut [u8],
-) -> io::Result<()> {
-    match read_text(text, bytes) {
-        TextAnswer::Refused(why) => print_refusal(out, why),
-        TextAnswer::Made(len) => answer_front(out, bytes, len, sheet),
-    }
-}
-
-// Types the first `len` bytes.
-fn answer_front(out: &impl Print, bytes: &[u8], len: usize, sheet: &mut [u8]) -> io::Result<()>
-    requires { len ≤ length bytes.now }
-{
-    answer_bytes(out, &bytes[..len], sheet)
-}
-
-// Types an expression in bytes into the sheet and prints what came out.
-fn answer_bytes(out: &impl Print, input: &[u8], sheet: &mut [u8]) -> io::Result<()> {
-    match type_expression(input, false, sheet) {
-        TypeAnswer::Refused(why) => print_refusal(out, why),
-        TypeAnswer::Typed { result, len } => {
-            print_answer(out, 0, 0, result.code)?;
-            print_sheet(out, sheet, len)
-        }
-    }
-}
-
-// The line of a refusal.
-fn print_refusal(out: &impl Print, why: Refusal) -> io::Result<()> {
-    print_answer(out, why.number(), why.place(), UNUSED)
-}
-
-// Room for any worksheet.
-fn room() -> [u8; ENOUGH_BYTES]
-    ensures { enough_bytes ≡ length result }
-{
-    [0; ENOUGH_BYTES]
-}
-
-// Reads what is left of standard input to its end.
-fn skip_rest(mut input: Stdin) -> io::Result<()> {
-    io::copy(&mut input, &mut io::sink())?;
-    Ok(())
-}
-
-// The line of number, place and type.
-fn print_answer(out: &impl Print, number: u8, place: usize, code: u8) -> io::Result<()> {
-    print_number(out, number as u64, " ")?;
-    print_number(out, place as u64, " ")?;
-    print_number(out, code as u64, "\n")
-}
-
-// The worksheet in the first `len` bytes of the buffer.
-fn print_sheet(out: &impl Print, buffer: &[u8], len: usize) -> io::Result<()>
-    requires { len ≤ length buffer.now }
-{
-    print_lines(out, &buffer[..len])
+    input.first().is_some_and(|first| MEASURED_LEAF < *first)
 }
 
 // The lines of a worksheet.
-fn print_lines(out: &impl Print, sheet: &[u8]) -> io::Result<()> {
+fn print_sheet(out: &impl Print, sheet: &[u8]) -> io::Result<()> {
     for line in sheet.chunks(LINE) {
-        print_line(out, line)?;
+        if let [a, b, c, d] = line {
+            println!(out; "{a} {b} {c} {d}")?;
+        }
     }
     Ok(())
-}
-
-// A line of a worksheet; nothing of one that is cut short.
-fn print_line(out: &impl Print, line: &[u8]) -> io::Result<()> {
-    if line.len() < LINE {
-        return Ok(());
-    }
-    print_number(out, wide(line[0]), " ")?;
-    print_number(out, wide(line[1]), " ")?;
-    print_number(out, wide(line[2]), " ")?;
-    print_number(out, wide(line[3]), "\n")
-}
-
-fn wide(byte: u8) -> u64 {
-    byte as u64
-}
-
-// A number and what stands behind it.
-fn print_number(out: &impl Print, n: u64, end: &str) -> io::Result<()> {
-    print!(out; "{n}{end}")
 }

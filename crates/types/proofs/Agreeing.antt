@@ -4,6 +4,7 @@ use mathlib.Core.Path.{◌≡◌, refl, sym, ap, ◌∙◌}
 use mathlib.Core.Bool.{Bool, true, false}
 use mathlib.Core.List.{List, [], ◌∷◌}
 use Prim.Native.Nat.{ℕ, suc, ◌+◌, ◌≤◌, ◌<◌}
+use Rattle.std.specs.Prelude.{Option, Some, None}
 use native.Mathlib.Numerals.{add-one}
 use native.Mathlib.Nat.{zero-add}
 use native.Mathlib.Omega.{arith}
@@ -15,13 +16,10 @@ use Rattle.scalars.specs.Mask.{choose}
 use Rattle.scalars.specs.Domain.{converts, scalar_count}
 use Rattle.scalars.specs.Paper.{Paper, accepted, refusal, unused}
 use Rattle.types.specs.TypePaper.{left, right, by_base, by_component, no_consensus}
-use Rattle.types.specs.TypeCode.{leaf_scalar}
-use Rattle.types.specs.Conversion.{combination, side, combined, none, agree, agree_with_first, first_of, giver_of, with_giver}
+use Rattle.types.specs.Conversion.{combination, side, combined, none, agree, agree_with_first, first_of, giver_of, with_giver, if_known_all}
 use Rattle.types.specs.private.Agreeing.{agree_from, giver_after, giver_in}
-use Rattle.types.specs.declared.conversion.Base.TheVariants as base
 use Rattle.scalars.specs.declared.scalar_set.Scalar.{Scalar}
-use Rattle.types.proofs.Codes.{from-here}
-use Rattle.types.proofs.TypeCodes.{leaf-some}
+use Rattle.types.proofs.Codes.{from-here, known_types_answer}
 use Rattle.types.proofs.Conversions.{itself, alike, onwards, joins}
 use Rattle.types.proofs.Combinations.{combination-known, combined-some}
 
@@ -143,38 +141,40 @@ module _ (best : ℕ) (s : List ℕ) (i : ℕ) where
   unfolding agree_from agree
   agree-without g h v = sym (ap (agree_from best g i) (from-here s i h) ∙ simp (le-ltb _ _ v))
 
-  module _ {v : ℕ} (h : i < length s) (e : leaf_scalar (get_or s i 0) ≡ accepted (v ∷ [])) where
+  module _ {v : ℕ} (h : i < length s) (w : get_or s i 0 < other_type) (f : v ≡ scalar_part (get_or s i 0)) where
     pub agree-none : (g : List ℕ) → combination best v ≡ none → refusal 12 i no_consensus ≡ agree_from best g i (drop i s)
     unfolding agree_from agree
-    agree-none g n =
-        let f = leaf-some (get_or s i 0) e in
-        sym (ap (agree_from best g i) (from-here s i h) ∙ simp (lt-ltb _ _ f.0, f.1, n))
+    agree-none g n = sym (ap (agree_from best g i) (from-here s i h) ∙ simp (lt-ltb _ _ w, ← f, n))
 
     pub agree-next : (giver next by later : ℕ) → best < scalar_count → accepted (next ∷ by ∷ []) ≡ combined best v → later ≡ giver_after giver by i
         → (next < scalar_count) × (agree_from next (giver_in (length s) later) (i + 1) (drop (i + 1) s) ≡ agree_from best (giver_in (length s) giver) i (drop i s))
     agree-next giver next by later b m l =
-        let (w, f) = leaf-some (get_or s i 0) e in
         let (n, p, q) = combined-some best v m in
         let k : v < scalar_count = omega (arith, f) in (
           rw p at (combination-known best v b k n),
-          rw (l, giver_later (length s) giver by i h, sym p, sym q, add-one i, from-here s i h, sym f, add-one i)
-              (further best i (get_or s i 0) (drop (suc i) s) (giver_in (length s) giver) b w (λ z. n (ap (combination best) (sym f) ∙ z))),
+          rw (l, giver_later (length s) giver by i h, sym p, sym q, add-one i, from-here s i h, f, add-one i)
+              (further best i (get_or s i 0) (drop (suc i) s) (giver_in (length s) giver) b w (λ z. n (ap (combination best) f ∙ z))),
         )
 
 -- ---- from the start
 
+-- where each type is known, the test for it stands in nobody's way
+pub with_known : (b : Option Scalar) (ts : List ℕ) (answer : Paper) → accepted [] ≡ if_known_all ts [] (accepted [])
+    → with_giver (giver_of b ts) answer ≡ with_giver (giver_of b ts) (if_known_all ts (unused ∷ []) answer)
+with_known b ts answer e = ap (with_giver (giver_of b ts)) (known_types_answer ts (unused ∷ []) answer e)
+
 module _ (s : List ℕ) where
   -- with a base, which is its own giver
-  pub base_agrees : (b : Scalar) → agree_from b.0 (giver_in (length s) (length s)) 0 s ≡ with_giver (giver_of (base.Scalar b) s) (agree b.0 0 s)
+  pub base_agrees : (b : Scalar) → agree_from b.0 (giver_in (length s) (length s)) 0 s ≡ with_giver (giver_of (Some b) s) (agree b.0 0 s)
   unfolding agree_from giver_of
   base_agrees b =
       rw (eq-eqb (length s) (length s) refl)
-      (same_giver (λ x. choose (eqb b.0 x) by_base (by_component (0 + first_of x s))) (giver_of (base.Scalar b) s) (agree b.0 0 s)
+      (same_giver (λ x. choose (eqb b.0 x) by_base (by_component (0 + first_of x s))) (giver_of (Some b) s) (agree b.0 0 s)
       (λ vs e. ap (λ (n : ℕ). choose (eqb b.0 (get_or vs 0 unused)) by_base (by_component n)) (zero-add (first_of (get_or vs 0 unused) s))))
 
   -- with none: the first component, and the rest behind it
   abbrev with_first : List ℕ → Paper
-  with_first ts = with_giver (giver_of base.Nothing ts) (agree_with_first ts)
+  with_first ts = with_giver (giver_of None ts) (agree_with_first ts)
 
   pub first-none : length s ≡ 0 → refusal 11 0 no_consensus ≡ with_first s
   first-none e = sym (ap with_first (empty s e))
@@ -193,14 +193,13 @@ module _ (s : List ℕ) where
   pub first-without : (length s ≡ 0 → ⊥) → other_type ≤ get_or s 0 0 → refusal 12 0 no_consensus ≡ with_first s
   first-without n v = sym (ap with_first (split n) ∙ simp (le-ltb _ _ v))
 
-  pub first-agrees : {v : ℕ} → (length s ≡ 0 → ⊥) → leaf_scalar (get_or s 0 0) ≡ accepted (v ∷ []) → agree_from v (giver_in (length s) 0) 1 (drop 1 s) ≡ with_first s
+  pub first-agrees : {v : ℕ} → (length s ≡ 0 → ⊥) → get_or s 0 0 < other_type → v ≡ scalar_part (get_or s 0 0) → agree_from v (giver_in (length s) 0) 1 (drop 1 s) ≡ with_first s
   unfolding agree_from giver_of first_of
-  first-agrees {v} n e =
-      let (w, f) = leaf-some (get_or s 0 0) e in
+  first-agrees {v} n w f =
       rw (ne_eqb 0 (length s) (λ z. n (sym z)))
       (same_giver (λ x. choose (eqb v x) (by_component 0) (by_component (1 + first_of x (drop 1 s))))
       (λ x. by_component (choose (eqb v x) 0 (suc (first_of x (drop 1 s))))) (agree v 1 (drop 1 s)) (λ vs e. either_way (eqb v (get_or vs 0 unused)) (first_of (get_or vs 0 unused) (drop 1 s)))
-      ∙ sym (ap with_first (split n) ∙ simp (lt-ltb _ _ w, f)))
+      ∙ sym (ap with_first (split n) ∙ simp (lt-ltb _ _ w, ← f)))
     where
       either_way : (x : Bool) (k : ℕ) → choose x (by_component 0) (by_component (1 + k)) ≡ by_component (choose x 0 (suc k))
       either_way true k = refl

@@ -12,15 +12,11 @@ use Rattle.scalars.specs.Mask.{choose, both, either, digit}
 use Rattle.scalars.specs.Domain.{converts, scalar_count}
 use Rattle.scalars.specs.Scalar.{member, convertible_from}
 use Rattle.scalars.specs.Paper.{Paper, accepted}
-use Rattle.types.specs.TypePaper.{left, right, combination_paper}
+use Rattle.types.specs.TypePaper.{left, right}
 use Rattle.types.specs.Conversion.{converts_to, combination, side, combined, none}
 use Rattle.types.specs.private.Agreeing.{pair_count, combinations}
-use Rattle.types.specs.declared.conversion.Combination.{Combination}
-use Rattle.types.specs.declared.conversion.Combination.TheVariants as answer
 use Rattle.scalars.proofs.Scalars.{reached}
 use Rattle.scalars.proofs.Table.{at, entry}
-use Rattle.scalars.specs.declared.scalar_set.Scalar.{Scalar}
-use Rattle.types.specs.declared.conversion.Side.{Side}
 
 -- whether a scalar converts, by its set
 pub converts-told : (a b m : ℕ) {x : Bool} → a < scalar_count → b < scalar_count → m ≡ convertible_from a → member b m ≡ x → converts_to a b ≡ accepted (digit x ∷ [])
@@ -65,16 +61,16 @@ table_rule a b h k =
     (rw (q, r) at (at (λ k c. fits? (k / scalar_count) (k % scalar_count) c) combinations tt i (omega arith)))
 
 -- the three ways to read an entry of the table
-module _ (t : List ℕ) (a b : ℕ) (e : t ≡ combinations) (h : a < scalar_count) (k : b < scalar_count) where
-  pub in_table : a * scalar_count + b < length t
+module _ (t : List ℕ) (a b i : ℕ) (e : t ≡ combinations) (h : a < scalar_count) (k : b < scalar_count) (at : i ≡ a * scalar_count + b) where
+  pub in_table : i < length t
   unfolding combinations
   in_table = rw e (omega arith)
 
   abbrev found : ℕ
-  found = get_or t (a * scalar_count + b) 0
+  found = get_or t i 0
 
   rule : read_off a b found ≡ combined a b
-  rule = rw e (table_rule a b h k)
+  rule = rw (e, at) (table_rule a b h k)
 
   pub reads_nothing : found ≡ none → accepted [] ≡ combined a b
   unfolding read_off
@@ -115,10 +111,5 @@ module _ (a b : ℕ) where
       combined_case (λ p. accepted (n ∷ m ∷ []) ≡ p → (combination a b ≡ none → ⊥) × (combination a b ≡ n) × (side a b ≡ m))
       (λ h e. let z : ◌≡◌ {A = ℕ} 0 1 = cc in absurd (omega arith)) (λ h e. (h, cc, cc))
 
-  pub combined-none : (x : Combination) → combination_paper x ≡ combined a b → ((s : Scalar) (by : Side) → x ≡ answer.Scalar s by → ⊥) → combination a b ≡ none
-  combined-none (answer.Scalar s by) e k = absurd (k s by refl)
-  combined-none answer.Nothing e k =
-      combined_case (λ p. accepted [] ≡ p → combination a b ≡ none) (λ h e. h) (λ h e. let z : ◌≡◌ {A = ℕ} 0 1 = cc in absurd (omega arith)) e
-  combined-none (answer.Refused why) e k =
-      combined_case (λ p. combination_paper (answer.Refused why) ≡ p → combination a b ≡ none) (λ h e. h)
-      (λ h e. let z : ◌≡◌ {A = ℕ} 0 1 = cc in absurd (omega arith)) e
+  pub combined-none : accepted [] ≡ combined a b → combination a b ≡ none
+  combined-none = combined_case (λ p. accepted [] ≡ p → combination a b ≡ none) (λ h e. h) (λ h e. let z : ◌≡◌ {A = ℕ} 0 1 = cc in absurd (omega arith))

@@ -7,10 +7,10 @@ use native.Mathlib.Nat.{lt_of_lt_of_le}
 use native.Mathlib.Omega.{arith}
 use lib.Dec.{eqb, ltb, lit≤}
 use lib.ListN.{length, get_or}
-use borrow.Author.Tests.{lt-ltb, le-ltb, ltb-false, eqb-true, ne_eqb}
-use Rattle.scalars.specs.Mask.{choose, either, bits, head_or, mask_of}
+use borrow.Author.Tests.{lt-ltb, le-ltb, eqb-true, ne_eqb}
+use Rattle.scalars.specs.Mask.{choose, bits, head_or, mask_of}
 use Rattle.types.specs.Domain.{constructor_count}
-use Rattle.types.specs.Constructor.{set_size, sizes, size_of_one, outside_sizes}
+use Rattle.types.specs.Constructor.{set_size, sizes, size_of_one}
 use Rattle.scalars.specs.Paper.{accepted, refusal, unused}
 use Rattle.scalars.proofs.Bits.{bits-within, bits-lowest, mask-bits}
 use Rattle.scalars.proofs.Masks.{trailing_lt}
@@ -70,13 +70,3 @@ vector-size k n h = size-row k (omega arith) ∙ simp (ne_eqb _ _ n, lt-ltb _ _ 
 
 pub matrix-size : (k : ℕ) → 4 ≤ k → k < constructor_count → get_or sizes k [] ≡ 2 ∷ ((k - 4) / 3 + 2) ∷ ((k - 4) % 3 + 2) ∷ []
 matrix-size k l h = size-row k h ∙ simp (ne_eqb k 0 (λ z. absurd (omega arith)), le-ltb _ _ l)
-
--- a number of components, columns or rows that is not outside
-pub inside : (n : ℕ) → outside_sizes n ≡ false → (2 ≤ n) × (n ≤ 4)
-unfolding outside_sizes
-inside n e = go (ltb n 2) (ltb 4 n) refl refl e
-  where
-    go : (x y : Bool) → ltb n 2 ≡ x → ltb 4 n ≡ y → either x y ≡ false → (2 ≤ n) × (n ≤ 4)
-    go true y f g e = let z : ◌≡◌ {A = ℕ} 0 1 = cc in absurd (omega arith)
-    go false true f g e = let z : ◌≡◌ {A = ℕ} 0 1 = cc in absurd (omega arith)
-    go false false f g e = (ltb-false _ _ f, ltb-false _ _ g)

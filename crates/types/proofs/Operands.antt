@@ -1,32 +1,14 @@
--- Marks one after the other: whether some operand from here on is measured; and operands whose types and marks stand side by side.
--- Assumes nothing.
-use mathlib.Core.Path.{◌≡◌, refl, sym, ap, ap₂, ◌∙◌}
+-- Operands whose types and marks stand side by side. Assumes nothing.
+use mathlib.Core.Path.{◌≡◌, refl, ap, ap₂}
 use mathlib.Core.Bool.{Bool, true, false}
 use mathlib.Core.List.{List, [], ◌∷◌, ◌++◌}
-use Prim.Native.Nat.{ℕ, suc, ◌+◌, ◌≤◌, ◌<◌}
-use native.Mathlib.Numerals.{add-one}
+use Prim.Native.Nat.{ℕ, suc}
 use native.Mathlib.Omega.{arith}
 use lib.Dec.{eqb}
-use lib.ListN.{length, get_or, drop, drop_of_length-le}
-use lib.Seq.{drop-cons}
-use borrow.Author.Tests.{eq-eqb, ne_eqb}
+use lib.ListN.{length}
 use Rattle.scalars.specs.Mask.{either}
 use Rattle.types.specs.declared.operand.Operand.{Operand}
 use Rattle.types.specs.Operand.{measured_mark, mark_of, operand_of, operands_of, codes, marks, any_measured, any_mark}
-
-module _ (ms : List ℕ) (i : ℕ) where
-  split : i < length ms → any_mark (drop i ms) ≡ either (eqb (get_or ms i 0) measured_mark) (any_mark (drop (i + 1) ms))
-  split h = rw (add-one i) (ap any_mark (drop-cons ms i 0 h))
-
-  module _ (inv : any_mark (drop i ms) ≡ any_mark ms) where
-    pub mark-here : i < length ms → get_or ms i 0 ≡ measured_mark → true ≡ any_mark ms
-    mark-here h e = sym (sym inv ∙ split h ∙ rw (eq-eqb (get_or ms i 0) measured_mark e))
-
-    pub mark-later : i < length ms → (get_or ms i 0 ≡ measured_mark → ⊥) → any_mark (drop (i + 1) ms) ≡ any_mark ms
-    mark-later h e = sym (split h ∙ rw (ne_eqb (get_or ms i 0) measured_mark e)) ∙ inv
-
-    pub mark-none : length ms ≤ i → false ≡ any_mark ms
-    mark-none h = sym (ap any_mark (drop_of_length-le ms h)) ∙ inv
 
 -- as many types as marks are the types and marks of operands
 pub codes-beside : (ts ms : List ℕ) → length ts ≡ length ms → codes (operands_of ts ms) ≡ ts

@@ -1,8 +1,9 @@
 -- Type codes: which answers are one, and which types have a scalar. Assumes nothing.
 use mathlib.Core.Path.{◌≡◌, refl, ap}
 use mathlib.Core.Bool.{Bool, true, false}
-use mathlib.Core.List.{[], ◌∷◌}
+use mathlib.Core.List.{List, [], ◌∷◌}
 use Prim.Native.Nat.{ℕ, ◌%◌, ◌≤◌, ◌<◌}
+use Rattle.std.specs.Prelude.{Option, Some, None, Result, Ok, Err}
 use native.Mathlib.Omega.{arith}
 use lib.Dec.{T, eqb, eqb→eq, leb, ltb}
 use borrow.Author.Tests.{ltb-true, ltb-false}
@@ -10,10 +11,9 @@ use Rattle.types.specs.Domain.{constructor_count, last_code, other_type}
 use Rattle.scalars.specs.Domain.{scalar_count}
 use Rattle.scalars.specs.Mask.{choose}
 use Rattle.types.specs.TypeCode.{if_both, leaf_scalar}
-use Rattle.scalars.specs.Paper.{Paper, accepted, refusal, unused}
+use Rattle.scalars.specs.Paper.{Paper, accepted, refusal, refused, verdict_paper, unused}
 use Rattle.types.specs.TypePaper.{leaf_paper}
-use Rattle.types.specs.declared.type_code.LeafScalar.{LeafScalar}
-use Rattle.types.specs.declared.type_code.LeafScalar.TheVariants as leaf
+use Rattle.scalars.specs.declared.refusal.Refusal.{Refusal}
 use Rattle.scalars.specs.declared.scalar_set.Scalar.{Scalar}
 
 -- ---- an answer that is a code
@@ -48,10 +48,34 @@ module _ (t : ℕ) where
       no : {C : Type 0} → accepted [] ≡ accepted (s ∷ []) → C
       no e = let z : ◌≡◌ {A = ℕ} 0 1 = cc in absurd (omega arith)
 
-  pub leaf-none : (x : LeafScalar) → leaf_paper x ≡ leaf_scalar t → ((s : Scalar) → x ≡ leaf.Scalar s → ⊥) → other_type ≤ t
-  leaf-none (leaf.Scalar s) e k = absurd (k s refl)
-  leaf-none leaf.Nothing e k = leaf_case (λ p. accepted [] ≡ p → other_type ≤ t) (λ h e. let z : ◌≡◌ {A = ℕ} 0 1 = cc in absurd (omega arith)) (λ h e. h) (λ h e. h) e
-  leaf-none (leaf.Refused why) e k = leaf_case (λ p. leaf_paper (leaf.Refused why) ≡ p → other_type ≤ t) (λ h e. let z : ◌≡◌ {A = ℕ} 0 1 = cc in absurd (omega arith)) (λ h e. h) (λ h e. h) e
+  pub leaf-none : (x : Result (Option Scalar) Refusal) → leaf_paper x ≡ leaf_scalar t → ((s : Scalar) → x ≡ Ok (Some s) → ⊥) → other_type ≤ t
+  leaf-none (Ok (Some s)) e k = absurd (k s refl)
+  leaf-none (Ok None) e k = leaf_case (λ p. accepted [] ≡ p → other_type ≤ t) (λ h e. let z : ◌≡◌ {A = ℕ} 0 1 = cc in absurd (omega arith)) (λ h e. h) (λ h e. h) e
+  leaf-none (Err why) e k = leaf_case (λ p. leaf_paper (Err why) ≡ p → other_type ≤ t) (λ h e. let z : ◌≡◌ {A = ℕ} 0 1 = cc in absurd (omega arith)) (λ h e. h) (λ h e. h) e
+
+-- what follows the test that two numbers are known: its refusal with these values, or the answer
+module _ (first second : Bool) (vs : List ℕ) (answer : Paper) where
+  pub unknown_refused : (why : Refusal) → verdict_paper (Err why) ≡ if_both first second [] (accepted []) → refused why vs ≡ if_both first second vs answer
+  unknown_refused why e = go first second e
+    where
+      go : (x y : Bool) → verdict_paper (Err why) ≡ if_both x y [] (accepted []) → refused why vs ≡ if_both x y vs answer
+      go true true e = let z : ◌≡◌ {A = ℕ} 0 1 = cc in absurd (omega arith)
+      go true false e = cc
+      go false y e = cc
+
+  pub known_answers : accepted [] ≡ if_both first second [] (accepted []) → answer ≡ if_both first second vs answer
+  known_answers e = go first second e
+    where
+      go : (x y : Bool) → accepted [] ≡ if_both x y [] (accepted []) → answer ≡ if_both x y vs answer
+      go true true e = refl
+      go true false e = let z : ◌≡◌ {A = ℕ} 0 1 = cc in absurd (omega arith)
+      go false y e = let z : ◌≡◌ {A = ℕ} 0 1 = cc in absurd (omega arith)
+
+-- where both passed
+pub both_true : (first second : Bool) → accepted [] ≡ if_both first second [] (accepted []) → (first ≡ true) × (second ≡ true)
+both_true true true e = (refl, refl)
+both_true true false e = let z : ◌≡◌ {A = ℕ} 0 1 = cc in absurd (omega arith)
+both_true false second e = let z : ◌≡◌ {A = ℕ} 0 1 = cc in absurd (omega arith)
 
 -- an answer that is a code passed each test before it
 module _ (k s t : ℕ) where

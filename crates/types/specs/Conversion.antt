@@ -1,13 +1,12 @@
 -- 'Consensus', and the combination of two scalars, each with its refusals; and request (ii), who gave the scalar.
-use Rattle.std.specs.Prelude.{List, [], ◌∷◌, ℕ, suc, ◌+◌, eqb, ltb, length, get_or}
+use Rattle.std.specs.Prelude.{List, [], ◌∷◌, ℕ, suc, ◌+◌, eqb, ltb, length, get_or, Option, Some, None}
 use Rattle.scalars.specs.Mask.{choose, both, digit}
 use Rattle.scalars.specs.Domain.{converts, scalar_count}
 use Rattle.types.specs.Domain.{value?, scalar_part, first_unknown}
 use Rattle.scalars.specs.Paper.{Paper, accepted, refusal, when_accepted, unused}
 use Rattle.types.specs.TypeCode.{if_both}
 use Rattle.types.specs.TypePaper.{left, right, by_base, by_component, no_consensus}
-use Rattle.types.specs.declared.conversion.Base.{Base}
-use Rattle.types.specs.declared.conversion.Base.TheVariants as base
+use Rattle.scalars.specs.declared.scalar_set.Scalar.{Scalar}
 
 -- whether a scalar converts to another
 unfoldable pub converts_to : ℕ → ℕ → Paper
@@ -56,9 +55,9 @@ agree_with_first [] = refusal 11 0 (unused ∷ [])
 agree_with_first (t ∷ ts) = choose (value? t) (agree (scalar_part t) 1 ts) (refusal 12 0 (unused ∷ []))
 
 -- the scalar of a base, or none, and components; a base with no components answers the base
-unfoldable pub agreed : Base → List ℕ → Paper
-agreed (base.Scalar s) ts = choose (ltb s.0 scalar_count) (if_known_all ts (unused ∷ []) (agree s.0 0 ts)) (refusal 7 0 (unused ∷ []))
-agreed base.Nothing ts = if_known_all ts (unused ∷ []) (agree_with_first ts)
+unfoldable pub agreed : Option Scalar → List ℕ → Paper
+agreed (Some s) ts = choose (ltb s.0 scalar_count) (if_known_all ts (unused ∷ []) (agree s.0 0 ts)) (refusal 7 0 (unused ∷ []))
+agreed None ts = if_known_all ts (unused ∷ []) (agree_with_first ts)
 
 -- ---- who gave it
 
@@ -68,14 +67,14 @@ first_of s [] = 0
 first_of s (t ∷ ts) = choose (both (value? t) (eqb (scalar_part t) s)) 0 (suc (first_of s ts))
 
 -- the base, if the scalar already was the base's; otherwise the first component whose scalar it is
-unfoldable pub giver_of : Base → List ℕ → ℕ → List ℕ
-giver_of (base.Scalar b) ts s = choose (eqb b.0 s) by_base (by_component (first_of s ts))
-giver_of base.Nothing ts s = by_component (first_of s ts)
+unfoldable pub giver_of : Option Scalar → List ℕ → ℕ → List ℕ
+giver_of (Some b) ts s = choose (eqb b.0 s) by_base (by_component (first_of s ts))
+giver_of None ts s = by_component (first_of s ts)
 
 -- an answer's scalar, and behind it who gave it
 abbrev pub with_giver : (ℕ → List ℕ) → Paper → Paper
 with_giver who p = when_accepted p (λ vs. accepted (get_or vs 0 unused ∷ who (get_or vs 0 unused))) no_consensus
 
 -- the scalar on which base and components agree, and who gave it
-unfoldable pub consensus_of : Base → List ℕ → Paper
+unfoldable pub consensus_of : Option Scalar → List ℕ → Paper
 consensus_of b ts = with_giver (giver_of b ts) (agreed b ts)

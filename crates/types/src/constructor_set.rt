@@ -2,27 +2,29 @@
 //
 // Bit k of a mask stands for the constructor numbered k: SCALAR, VEC2 to VEC4, then the matrices, columns before rows.
 
-ghost use Rattle.std.specs.Prelude.{◌≡◌, [], eqb, get_or, length, ◌<◌};
+ghost use Rattle.std.specs.Prelude.{◌≡◌, [], eqb, get_or, length, ◌<◌, ◌+◌, true, false};
+ghost use Rattle.std.specs.Result.{MatchResult};
 ghost use Rattle.std.specs.Int.Bits.{bit_and};
 ghost use Rattle.scalars.specs.Mask.{bits};
 ghost use Rattle.scalars.specs.OneBits.{members_within};
 ghost use Rattle.scalars.specs.Paper.{members_paper};
-ghost use Rattle.types.specs.Domain.{constructor_count};
+ghost use Rattle.types.specs.Domain.{constructor_count, size_count, bi};
 ghost use Rattle.types.specs.TypePaper.{size_values, size_paper, constructor_paper, code_paper};
 ghost use Rattle.types.specs.Constructor.{singleton_of_code, constructor_size, set_size, sizes, constructor_of, inner_of, outside_sizes, constructors_that, vector?};
 
-use crate::type_code::{CodeAnswer, VALUES, value_code};
-use scalars::{Members, OneBit, Refusal, Scalar, members_of, no_members};
+use crate::type_code::{VALUES, value_code};
+use scalars::{Members, OneBit, Refusal, Scalar, members_within};
 
 // A set of constructors: bit k stands for the constructor numbered k.
 #[derive(Clone, Copy)]
 pub struct ConstructorSet(pub u16);
 
-// A constructor by its number, 0 to 12.
+// A constructor by its number, 0 to 12: any other is refused, or required away in a private function.
 #[derive(Clone, Copy)]
 pub struct Constructor(pub u8);
 
-// The size of a constructor: a vector's number of components, a matrix's columns and rows.
+// The size of a constructor: a vector's number of components, a matrix's columns and rows. Numbers, since a size that does not exist is
+// refused by `constructor`.
 #[derive(Clone, Copy)]
 pub enum ConstructorSize {
     Scalar,
@@ -30,28 +32,12 @@ pub enum ConstructorSize {
     Matrix { columns: u8, rows: u8 },
 }
 
-// The answer where one size is asked for.
-#[derive(Clone, Copy)]
-pub enum SizeAnswer {
-    Size(ConstructorSize),
-    Refused(Refusal),
-}
-
-// The answer where one constructor is asked for.
-#[derive(Clone, Copy)]
-pub enum ConstructorAnswer {
-    Constructor(Constructor),
-    Refused(Refusal),
-}
-
-// The numbers at which the three kinds of constructor begin, and how many sizes a vector may have.
+// The numbers at which the three kinds of constructor begin.
 const SCALAR: u8 = Constructor::SCALAR.0;
 
 const FIRST_VECTOR: u8 = Constructor::VEC2.0;
 
 pub(crate) const FIRST_MATRIX: u8 = Constructor::MAT2X2.0;
-
-const SIZES: u8 = ConstructorSize::QUAD - ConstructorSize::BI + 1;
 
 impl Constructor {
     pub const SCALAR: Constructor = Constructor(0);
@@ -84,13 +70,13 @@ impl Constructor {
     pub const COUNT: u8 = 13;
 
     // The size of this constructor. Refused 7 for an unknown one.
-    pub fn size(self) -> SizeAnswer
+    pub fn size(self) -> Result<ConstructorSize, Refusal>
         ensures { size_paper result ≡ constructor_size self.0 }
     {
         if Constructor::COUNT <= self.0 {
-            return SizeAnswer::Refused(Refusal::Unknown(0));
+            return Err(Refusal::Unknown(0));
         }
-        SizeAnswer::Size(size_of(self))
+        Ok(size_of(self))
     }
 }
 
@@ -163,36 +149,32 @@ impl ConstructorSet {
     pub fn is_singleton(self) -> bool
         ensures { result ≡ eqb (length (bits 16 self.0)) 1 }
     {
-        u16::count_ones(self.0) == 1
+        self.0.count_ones() == 1
     }
 
     // The members' numbers, lowest first. Refused 7 for an unknown bit.
-    pub fn members(self) -> Members
+    pub fn members(self) -> Result<Members, Refusal>
         ensures { members_paper result ≡ members_within constructor_count self.0 }
     {
-        let mask = self.0;
-        if ConstructorSet::ALL.0 < mask {
-            return no_members();
-        }
-        members_of(mask)
+        members_within(self.0, ConstructorSet::ALL.0)
     }
 
     // The size of the one member. Refused 7 for an unknown bit, 1 for the empty set, 2 for several members.
-    pub fn size(self) -> SizeAnswer
+    pub fn size(self) -> Result<ConstructorSize, Refusal>
         ensures { size_paper result ≡ set_size self.0 }
     {
         let mask = self.0;
         if ConstructorSet::ALL.0 < mask {
-            return SizeAnswer::Refused(Refusal::Unknown(0));
+            return Err(Refusal::Unknown(0));
         }
         if mask == 0 {
-            return SizeAnswer::Refused(Refusal::EmptySet(0));
+            return Err(Refusal::EmptySet(0));
         }
         if !self.is_singleton() {
-            return SizeAnswer::Refused(Refusal::SeveralConstructors);
+            return Err(Refusal::SeveralConstructors);
         }
-        let member = OneBit(mask as u64).number();
-        SizeAnswer::Size(size_of(Constructor(member.0)))
+        let member = OneBit(u64::from(mask)).number();
+        Ok(size_of(Constructor(member.0)))
     }
 
     // The set that `constructor_set.rs` names VECN.
@@ -216,8 +198,8 @@ fn size_of(constructor: Constructor) -> ConstructorSize
         return ConstructorSize::Vector(k - FIRST_VECTOR + ConstructorSize::BI);
     }
     ConstructorSize::Matrix {
-        columns: (k - FIRST_MATRIX) / SIZES + ConstructorSize::BI,
-        rows: (k - FIRST_MATRIX) % SIZES + ConstructorSize::BI,
+        columns: (k - FIRST_MATRIX) / ConstructorSize::COUNT + ConstructorSize::BI,
+        rows: (k - FIRST_MATRIX) % ConstructorSize::COUNT + ConstructorSize::BI,
     }
 }
 
@@ -227,57 +209,43 @@ impl ConstructorSize {
 
     pub const QUAD: u8 = 4;
 
+    // How many sizes a vector may have.
+    pub const COUNT: u8 = 3;
+
     pub const VEC2: ConstructorSize = ConstructorSize::Vector(ConstructorSize::BI);
 
     pub const VEC4: ConstructorSize = ConstructorSize::Vector(ConstructorSize::QUAD);
 
     // The constructor of this size. Refused 7 for a vector or a matrix that does not exist.
-    pub fn constructor(self) -> ConstructorAnswer
+    pub fn constructor(self) -> Result<Constructor, Refusal>
         ensures { constructor_paper result ≡ constructor_of self }
     {
         match self {
-            ConstructorSize::Scalar => ConstructorAnswer::Constructor(Constructor::SCALAR),
-            ConstructorSize::Vector(n) => {
-                if outside(n) {
-                    return ConstructorAnswer::Refused(Refusal::Unknown(0));
-                }
-                ConstructorAnswer::Constructor(Constructor(
-                    FIRST_VECTOR + (n - ConstructorSize::BI),
-                ))
-            }
-            ConstructorSize::Matrix { columns, rows } => {
-                if outside(columns) {
-                    return ConstructorAnswer::Refused(Refusal::Unknown(0));
-                }
-                if outside(rows) {
-                    return ConstructorAnswer::Refused(Refusal::Unknown(0));
-                }
-                ConstructorAnswer::Constructor(Constructor(
-                    FIRST_MATRIX
-                        + (columns - ConstructorSize::BI) * SIZES
-                        + (rows - ConstructorSize::BI),
-                ))
-            }
+            ConstructorSize::Scalar => Ok(Constructor::SCALAR),
+            ConstructorSize::Vector(n) => Ok(Constructor(FIRST_VECTOR + size_place(n)?)),
+            ConstructorSize::Matrix { columns, rows } => Ok(Constructor(
+                FIRST_MATRIX + size_place(columns)? * ConstructorSize::COUNT + size_place(rows)?,
+            )),
         }
     }
 
     // The type code of this size and the scalar. Refused 7, at 0 for the size, then at 1 for the scalar.
-    pub fn to_inner(self, scalar: Scalar) -> CodeAnswer
+    pub fn to_inner(self, scalar: Scalar) -> Result<u8, Refusal>
         ensures { code_paper result ≡ inner_of self scalar.0 }
     {
-        match self.constructor() {
-            ConstructorAnswer::Refused(why) => CodeAnswer::Refused(why),
-            ConstructorAnswer::Constructor(constructor) => value_code(constructor, scalar),
-        }
+        value_code(self.constructor()?, scalar)
     }
 }
 
-// Whether no vector has this many components.
-fn outside(n: u8) -> bool
-    ensures { result ≡ outside_sizes n }
+// The place of a number of components, columns or rows among those that there are, from 0 on. Refused 7 for a number outside these.
+fn size_place(n: u8) -> Result<u8, Refusal>
+    ensures { MatchResult
+        result
+        (λ k. (outside_sizes n ≡ false) × (k < size_count) × (k + bi ≡ n))
+        (λ why. (outside_sizes n ≡ true) × (why ≡ Refusal.Unknown 0)) }
 {
-    if n < ConstructorSize::BI {
-        return true;
+    if n < ConstructorSize::BI || ConstructorSize::QUAD < n {
+        return Err(Refusal::Unknown(0));
     }
-    ConstructorSize::QUAD < n
+    Ok(n - ConstructorSize::BI)
 }

@@ -5,15 +5,15 @@
 // made once for each question and lent from there, since a constant is made anew wherever it is used. Beside its scalar each answer here
 // says who gave it, which the crate does not.
 
-ghost use Rattle.std.specs.Prelude.{◌≡◌, ◌<◌, ◌≤◌, drop, length};
+ghost use Rattle.std.specs.Prelude.{◌≡◌, ◌<◌, ◌≤◌, [], Ok, Some, None, drop, length};
 ghost use Rattle.scalars.specs.Domain.{scalar_count};
-ghost use Rattle.scalars.specs.Paper.{test_paper};
+ghost use Rattle.scalars.specs.Paper.{accepted, verdict_paper, test_paper};
 ghost use Rattle.types.specs.TypePaper.{side_number, combination_paper, giver_values, consensus_paper};
-ghost use Rattle.types.specs.Conversion.{converts_to, combined, combine_of, consensus_of};
+ghost use Rattle.types.specs.Conversion.{converts_to, combined, combine_of, if_known_all, consensus_of};
 ghost use Rattle.types.specs.private.Agreeing.{combinations, agree_from, giver_after, giver_in};
 
-use crate::type_code::{LeafScalar, first_unknown, leaf_scalar};
-use scalars::{Refusal, Scalar, ScalarSet, Test};
+use crate::type_code::{LAST_CODE, both_known, scalar_of};
+use scalars::{Refusal, Scalar, ScalarSet};
 
 // Which of two scalars gave their combination: the left one, if they are equal.
 #[derive(Clone, Copy)]
@@ -22,39 +22,18 @@ pub enum Side {
     Right,
 }
 
-// What two scalars combine to, and which of them gave it.
+// The scalar of a consensus, and the component that gave it: the first one whose scalar it is, by its index. None gave it where the
+// scalar already was the base's.
 #[derive(Clone, Copy)]
-pub enum Combination {
-    Scalar(Scalar, Side),
-    Nothing,
-    Refused(Refusal),
-}
-
-// The scalar that a consensus must also be compatible with, or none.
-#[derive(Clone, Copy)]
-pub enum Base {
-    Scalar(Scalar),
-    Nothing,
-}
-
-// Who gave the scalar of a consensus: the base, if it already was the base's, or the first component whose scalar it is, by its index.
-#[derive(Clone, Copy)]
-pub enum Giver {
-    Base,
-    Component(usize),
-}
-
-// The answer where a consensus is asked for.
-#[derive(Clone, Copy)]
-pub enum ConsensusAnswer {
-    Scalar(Scalar, Giver),
-    Refused(Refusal),
+pub struct Consensus {
+    pub scalar: Scalar,
+    pub component: Option<usize>,
 }
 
 // How many ordered pairs of scalars there are.
 const PAIRS: usize = 144;
 
-// No scalar, in the table below.
+// No scalar, in the table below. Its entries are bytes: of `Option`s it would be twice as large, and no plainer to read.
 const NONE: u8 = 255;
 
 // The combination of scalars a and b, at `Scalar::COUNT` x a + b: the one that the other converts to, or NONE. A row for each a.
@@ -86,19 +65,11 @@ const COMBINED: [u8; PAIRS] = [
 ];
 
 // Whether the first scalar converts to the second. Refused 7 for an unknown scalar, at 0, then at 1.
-pub fn automatically_converts_to(from: Scalar, to: Scalar) -> Test
+pub fn automatically_converts_to(from: Scalar, to: Scalar) -> Result<bool, Refusal>
     ensures { test_paper result ≡ converts_to from.0 to.0 }
 {
-    if Scalar::COUNT <= from.0 {
-        return Test::Refused(Refusal::Unknown(0));
-    }
-    if Scalar::COUNT <= to.0 {
-        return Test::Refused(Refusal::Unknown(1));
-    }
-    if ScalarSet::convertible_from(from).contains(to) {
-        return Test::Yes;
-    }
-    Test::No
+    both_known(from.0 < Scalar::COUNT, to.0 < Scalar::COUNT)?;
+    Ok(ScalarSet::convertible_from(from).contains(to))
 }
 
 // The table, to be lent.
@@ -109,99 +80,108 @@ fn table() -> [u8; PAIRS]
 }
 
 // The combination of two known scalars by the lent table.
-fn combine_by(table: &[u8], a: Scalar, b: Scalar) -> Combination
+fn combine_by(table: &[u8], a: Scalar, b: Scalar) -> Option<(Scalar, Side)>
     requires { (table.now ≡ combinations) × (a.0 < scalar_count) × (b.0 < scalar_count) }
-    ensures { combination_paper result ≡ combined a.0 b.0 }
+    ensures { combination_paper (Ok result) ≡ combined a.0 b.0 }
 {
-    let i = (a.0 as usize) * (Scalar::COUNT as usize) + (b.0 as usize);
-    let c = table[i];
+    let c = table[usize::from(a.0 * Scalar::COUNT + b.0)];
     if c == NONE {
-        return Combination::Nothing;
+        return None;
     }
     if c == a.0 {
-        return Combination::Scalar(a, Side::Left);
+        return Some((a, Side::Left));
     }
-    Combination::Scalar(b, Side::Right)
+    Some((b, Side::Right))
 }
 
 // The one of two scalars that the other converts to, and the side that gave it, or nothing. Refused 7 at 0, then at 1, for an unknown
 // scalar.
-pub fn automatic_conversion_combine(a: Scalar, b: Scalar) -> Combination
+pub fn automatic_conversion_combine(a: Scalar, b: Scalar) -> Result<Option<(Scalar, Side)>, Refusal>
     ensures { combination_paper result ≡ combine_of a.0 b.0 }
 {
-    if Scalar::COUNT <= a.0 {
-        return Combination::Refused(Refusal::Unknown(0));
-    }
-    if Scalar::COUNT <= b.0 {
-        return Combination::Refused(Refusal::Unknown(1));
-    }
-    combine_by(&table(), a, b)
+    both_known(a.0 < Scalar::COUNT, b.0 < Scalar::COUNT)?;
+    Ok(combine_by(&table(), a, b))
 }
 
 // The scalar that the base, if there is one, and all components convert to, and who gave it. Refused 7 at 0 for an unknown base, at 1 +
 // index for an unknown component; 11 with neither base nor components; 12 at the first component with no scalar or no combination.
-pub fn automatic_conversion_consensus(base: Base, components: &[u8]) -> ConsensusAnswer
+pub fn automatic_conversion_consensus(
+    base: Option<Scalar>,
+    components: &[u8],
+) -> Result<Consensus, Refusal>
     ensures { consensus_paper result ≡ consensus_of base components.now }
 {
     match base {
-        Base::Scalar(scalar) => consensus_with(scalar, components),
-        Base::Nothing => consensus_without(components),
+        Some(scalar) => consensus_with(scalar, components),
+        None => consensus_without(components),
     }
 }
 
 // The consensus with a base.
-fn consensus_with(base: Scalar, components: &[u8]) -> ConsensusAnswer
-    ensures { consensus_paper result ≡ consensus_of (Base.Scalar base) components.now }
+fn consensus_with(base: Scalar, components: &[u8]) -> Result<Consensus, Refusal>
+    ensures { consensus_paper result ≡ consensus_of (Some base) components.now }
 {
     if Scalar::COUNT <= base.0 {
-        return ConsensusAnswer::Refused(Refusal::Unknown(0));
+        return Err(Refusal::Unknown(0));
     }
-    let known = first_unknown(components);
-    if known < components.len() {
-        return ConsensusAnswer::Refused(Refusal::Unknown(1 + known));
-    }
+    all_known(components)?;
     agree_from(components, 0, base, components.len())
 }
 
 // The consensus with the first component as its base.
-fn consensus_without(components: &[u8]) -> ConsensusAnswer
-    ensures { consensus_paper result ≡ consensus_of Base.Nothing components.now }
+fn consensus_without(components: &[u8]) -> Result<Consensus, Refusal>
+    ensures { consensus_paper result ≡ consensus_of None components.now }
 {
-    let known = first_unknown(components);
-    if known < components.len() {
-        return ConsensusAnswer::Refused(Refusal::Unknown(1 + known));
-    }
-    if components.len() == 0 {
-        return ConsensusAnswer::Refused(Refusal::NothingToCombine);
-    }
-    let LeafScalar::Scalar(first) = leaf_scalar(components[0]) else {
-        return ConsensusAnswer::Refused(Refusal::NoConsensus(0));
+    all_known(components)?;
+    let [first, ..] = components else {
+        return Err(Refusal::NothingToCombine);
     };
-    agree_from(components, 1, first, 0)
+    let Some(scalar) = scalar_of(*first) else {
+        return Err(Refusal::NoConsensus(0));
+    };
+    agree_from(components, 1, scalar, 0)
+}
+
+// Whether each component's type is known. Refused 7 at 1 + the index of the first that is not.
+fn all_known(components: &[u8]) -> Result<(), Refusal>
+    ensures { verdict_paper result ≡ if_known_all components.now [] (accepted []) }
+{
+    match components.iter().position(|code| LAST_CODE < *code) {
+        Some(first) => Err(Refusal::Unknown(1 + first)),
+        None => Ok(()),
+    }
 }
 
 // The consensus of `base` and the components from `start` on, each named and blamed by its own index. `by` is the component that gave the
-// base; the number of components stands for none.
-fn agree_from(components: &[u8], start: usize, base: Scalar, by: usize) -> ConsensusAnswer
+// base; the number of components stands for none. On its way through the loop the giver is a number: an `Option`'s padding is copied in
+// pieces at every turn, and each load then waits for the store before it.
+fn agree_from(
+    components: &[u8],
+    start: usize,
+    base: Scalar,
+    by: usize,
+) -> Result<Consensus, Refusal>
     requires { (base.0 < scalar_count) × (start ≤ length components.now) }
     ensures { consensus_paper result ≡ agree_from base.0 (giver_in (length components.now) by) start (drop start components.now) }
 {
     let lent = table();
     let mut best = base;
     let mut giver = by;
-    let mut i = start;
-    while i < components.len() {
-        let LeafScalar::Scalar(scalar) = leaf_scalar(components[i]) else {
-            return ConsensusAnswer::Refused(Refusal::NoConsensus(i));
+    // Over indices, which name the giver and the component at fault.
+    for i in start..components.len() {
+        let Some(scalar) = scalar_of(components[i]) else {
+            return Err(Refusal::NoConsensus(i));
         };
-        let Combination::Scalar(next, side) = combine_by(&lent, best, scalar) else {
-            return ConsensusAnswer::Refused(Refusal::NoConsensus(i));
+        let Some((next, side)) = combine_by(&lent, best, scalar) else {
+            return Err(Refusal::NoConsensus(i));
         };
         best = next;
         giver = giver_after(giver, side, i);
-        i += 1;
     }
-    ConsensusAnswer::Scalar(best, giver_in(components.len(), giver))
+    Ok(Consensus {
+        scalar: best,
+        component: giver_in(components.len(), giver),
+    })
 }
 
 // Which component gave the best, once component i is combined with it: i itself, where the right side gives the combination.
@@ -215,11 +195,8 @@ fn giver_after(giver: usize, side: Side, i: usize) -> usize
 }
 
 // The giver by its number among so many components: behind the last stands the base.
-fn giver_in(count: usize, giver: usize) -> Giver
+fn giver_in(count: usize, giver: usize) -> Option<usize>
     ensures { giver_values result ≡ giver_in count giver }
 {
-    if giver == count {
-        return Giver::Base;
-    }
-    Giver::Component(giver)
+    (giver != count).then_some(giver)
 }

@@ -9,15 +9,11 @@ mod marks;
 mod operand;
 mod type_code;
 
-pub use constructor_set::{
-    Constructor, ConstructorAnswer, ConstructorSet, ConstructorSize, SizeAnswer,
-};
+pub use constructor_set::{Constructor, ConstructorSet, ConstructorSize};
 pub use conversion::{
-    Base, Combination, ConsensusAnswer, Giver, Side, automatic_conversion_combine,
-    automatic_conversion_consensus, automatically_converts_to,
+    Consensus, Side, automatic_conversion_combine, automatic_conversion_consensus,
+    automatically_converts_to,
 };
 pub use marks::any_measured;
 pub use operand::{CONSTANT, MEASURED, Operand, concrete_only};
-pub use type_code::{
-    CodeAnswer, LAST_CODE, LeafScalar, TypeParts, VALUES, code_of, is_abstract, leaf_scalar,
-};
+pub use type_code::{LAST_CODE, TypeParts, VALUES, code_of, is_abstract, leaf_scalar};

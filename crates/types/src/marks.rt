@@ -9,12 +9,5 @@ use crate::operand::MEASURED;
 pub fn any_measured(marks: &[u8]) -> bool
     ensures { result ≡ any_mark marks.now }
 {
-    let mut i: usize = 0;
-    while i < marks.len() {
-        if marks[i] == MEASURED {
-            return true;
-        }
-        i += 1;
-    }
-    false
+    marks.contains(&MEASURED)
 }

@@ -9,6 +9,8 @@ ghost use Rattle.types.specs.Operand.{mark_of, operand_of, measured_abstract, co
 
 use crate::type_code::is_abstract;
 
+// Marks are bytes where operands stand side by side, as C hands them in.
+//
 // The mark of a constant operand.
 pub const CONSTANT: u8 = 0;
 // The mark of a measured operand.
@@ -35,20 +37,14 @@ impl Operand {
     pub fn mark(self) -> u8
         ensures { result ≡ mark_of self.measured }
     {
-        if self.measured {
-            return MEASURED;
-        }
-        CONSTANT
+        if self.measured { MEASURED } else { CONSTANT }
     }
 
     // Whether it is measured and abstract, as no reading can be.
     pub fn is_measured_abstract(self) -> bool
         ensures { result ≡ measured_abstract self }
     {
-        if !self.measured {
-            return false;
-        }
-        is_abstract(self.code)
+        self.measured && is_abstract(self.code)
     }
 }
 
@@ -56,8 +52,5 @@ impl Operand {
 pub fn concrete_only(switch: bool, measured: bool) -> bool
     ensures { result ≡ concrete_only switch measured }
 {
-    if switch {
-        return true;
-    }
-    measured
+    switch || measured
 }

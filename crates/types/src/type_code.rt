@@ -1,12 +1,15 @@
 // The number that stands for a type, in place of the crate's `TypeInner` in an arena.
 //
 // A value type is 12 x constructor + scalar, 0 to 155. 156 is an array, a pointer or a texture: it has no scalar and matches no
-// rule. 157 to 180 occur only as results: what Modf and Frexp answer, by constructor and scalar.
+// rule. 157 to 180 occur only as results: what Modf and Frexp answer, by constructor and scalar. Codes are plain bytes, since they arrive
+// in lent slices, stand in a rule's fields and are exported to C.
 
-ghost use Rattle.std.specs.Prelude.{◌≡◌, ◌≤◌};
-ghost use Rattle.types.specs.Domain.{first_unknown, is_abstract};
+ghost use Rattle.std.specs.Prelude.{◌≡◌, ◌≤◌, ◌<◌, []};
+ghost use Rattle.std.specs.Option.{MatchOption};
+ghost use Rattle.scalars.specs.Paper.{accepted, verdict_paper};
+ghost use Rattle.types.specs.Domain.{is_abstract, other_type, scalar_part};
 ghost use Rattle.types.specs.TypePaper.{code_paper, leaf_paper};
-ghost use Rattle.types.specs.TypeCode.{code_of, value_code, predeclared_code, leaf_scalar, first_frexp};
+ghost use Rattle.types.specs.TypeCode.{code_of, value_code, predeclared_code, if_both, leaf_scalar, first_frexp};
 
 use crate::constructor_set::{Constructor, FIRST_MATRIX};
 use scalars::{Refusal, Scalar};
@@ -36,107 +39,79 @@ pub enum TypeParts {
     Frexp(Constructor, Scalar),
 }
 
-// The answer where a type code is asked for.
-#[derive(Clone, Copy)]
-pub enum CodeAnswer {
-    Code(u8),
-    Refused(Refusal),
-}
-
-// The answer where the scalar of a type is asked for.
-#[derive(Clone, Copy)]
-pub enum LeafScalar {
-    Scalar(Scalar),
-    Nothing,
-    Refused(Refusal),
-}
-
 // The code of the parts. Refused 7 at 0 for an unknown constructor, at 1 for an unknown scalar; then 13 for what Modf and Frexp
 // do not answer.
-pub fn code_of(parts: TypeParts) -> CodeAnswer
+pub fn code_of(parts: TypeParts) -> Result<u8, Refusal>
     ensures { code_paper result ≡ code_of parts }
 {
     match parts {
         TypeParts::Value(constructor, scalar) => value_code(constructor, scalar),
-        TypeParts::Other => CodeAnswer::Code(VALUES),
+        TypeParts::Other => Ok(VALUES),
         TypeParts::Modf(constructor, scalar) => predeclared_code(MODF, constructor, scalar),
         TypeParts::Frexp(constructor, scalar) => predeclared_code(FREXP, constructor, scalar),
     }
 }
 
-// The code of a value type.
-pub(crate) fn value_code(constructor: Constructor, scalar: Scalar) -> CodeAnswer
+// The code of a value type. Constructor and scalar are two parameters, here and wherever a type is made: each is refused at its own place.
+pub(crate) fn value_code(constructor: Constructor, scalar: Scalar) -> Result<u8, Refusal>
     ensures { code_paper result ≡ value_code constructor.0 scalar.0 }
 {
     let k = constructor.0;
     let s = scalar.0;
-    if Constructor::COUNT <= k {
-        return CodeAnswer::Refused(Refusal::Unknown(0));
-    }
-    if Scalar::COUNT <= s {
-        return CodeAnswer::Refused(Refusal::Unknown(1));
-    }
-    CodeAnswer::Code(k * Scalar::COUNT + s)
+    both_known(k < Constructor::COUNT, s < Scalar::COUNT)?;
+    Ok(k * Scalar::COUNT + s)
 }
 
 // The code of what Modf or Frexp answers, of which `first` is the first: for scalars and vectors of F32, F16 and F64.
-fn predeclared_code(first: u8, constructor: Constructor, scalar: Scalar) -> CodeAnswer
+fn predeclared_code(first: u8, constructor: Constructor, scalar: Scalar) -> Result<u8, Refusal>
     requires { first ≤ first_frexp }
     ensures { code_paper result ≡ predeclared_code first constructor.0 scalar.0 }
 {
     let k = constructor.0;
     let s = scalar.0;
-    if Constructor::COUNT <= k {
-        return CodeAnswer::Refused(Refusal::Unknown(0));
+    both_known(k < Constructor::COUNT, s < Scalar::COUNT)?;
+    if FIRST_MATRIX <= k || s < FIRST_FLOAT || LAST_FLOAT < s {
+        return Err(Refusal::NoConclusion);
     }
-    if Scalar::COUNT <= s {
-        return CodeAnswer::Refused(Refusal::Unknown(1));
+    Ok(first + k * FLOATS + (s - FIRST_FLOAT))
+}
+
+// Whether two numbers are known. Refused 7, at 0 for the first, then at 1 for the second.
+pub(crate) fn both_known(first: bool, second: bool) -> Result<(), Refusal>
+    ensures { verdict_paper result ≡ if_both first second [] (accepted []) }
+{
+    if !first {
+        return Err(Refusal::Unknown(0));
     }
-    if FIRST_MATRIX <= k {
-        return CodeAnswer::Refused(Refusal::NoConclusion);
+    if !second {
+        return Err(Refusal::Unknown(1));
     }
-    if s < FIRST_FLOAT {
-        return CodeAnswer::Refused(Refusal::NoConclusion);
-    }
-    if LAST_FLOAT < s {
-        return CodeAnswer::Refused(Refusal::NoConclusion);
-    }
-    CodeAnswer::Code(first + k * FLOATS + (s - FIRST_FLOAT))
+    Ok(())
 }
 
 // The scalar of the type: of a value type; the others have none. Refused 7 above 180.
-pub fn leaf_scalar(code: u8) -> LeafScalar
+pub fn leaf_scalar(code: u8) -> Result<Option<Scalar>, Refusal>
     ensures { leaf_paper result ≡ leaf_scalar code }
 {
-    if code < VALUES {
-        return LeafScalar::Scalar(Scalar(code % Scalar::COUNT));
+    if LAST_CODE < code {
+        return Err(Refusal::Unknown(0));
     }
-    if code <= LAST_CODE {
-        return LeafScalar::Nothing;
-    }
-    LeafScalar::Refused(Refusal::Unknown(0))
+    Ok(scalar_of(code))
+}
+
+// The scalar of a value type; none of any other code.
+pub(crate) fn scalar_of(code: u8) -> Option<Scalar>
+    ensures { MatchOption
+        result
+        (other_type ≤ code)
+        (λ s. (code < other_type) × (s.0 ≡ scalar_part code)) }
+{
+    (code < VALUES).then_some(Scalar(code % Scalar::COUNT))
 }
 
 // Whether the type is a value type of an abstract scalar.
 pub fn is_abstract(code: u8) -> bool
     ensures { result ≡ is_abstract code }
 {
-    let LeafScalar::Scalar(scalar) = leaf_scalar(code) else {
-        return false;
-    };
-    scalar.0 <= Scalar::ABSTRACT_FLOAT.0
-}
-
-// The index of the first code above LAST_CODE, or the number of codes.
-pub(crate) fn first_unknown(codes: &[u8]) -> usize
-    ensures { result ≡ first_unknown codes.now }
-{
-    let mut i: usize = 0;
-    while i < codes.len() {
-        if LAST_CODE < codes[i] {
-            return i;
-        }
-        i += 1;
-    }
-    i
+    scalar_of(code).is_some_and(|scalar| scalar.0 <= Scalar::ABSTRACT_FLOAT.0)
 }

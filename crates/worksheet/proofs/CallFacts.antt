@@ -16,7 +16,7 @@ use Rattle.lists.specs.declared.list.Chosen.{Chosen}
 use Rattle.calls.specs.Choice.{chosen, resolve}
 use Rattle.calls.specs.Call.{answered}
 use Rattle.calls.specs.OutcomePaper.{outcome_paper}
-use Rattle.calls.specs.declared.outcome.Outcome.TheVariants as outcome
+use Rattle.std.proofs.Common.{Ok}
 use Rattle.calls.proofs.Surviving.{There, resolve-there}
 use Rattle.calls.proofs.OutcomePapers.{choice_of}
 
@@ -33,9 +33,9 @@ module _ (switch : Bool) (f : ℕ) (ts : List ℕ) where
         many = b.0 ∙ sym (one-length f i r b.1);
       }
 
-  pub rule-takes : (x : Chosen) → outcome_paper (outcome.Rule x) ≡ answered (resolve switch (listing_of f) ts)
+  pub rule-takes : (x : Chosen) → outcome_paper (Ok x) ≡ answered (resolve switch (listing_of f) ts)
       → length ts ≤ length (arguments_of x.rule)
   rule-takes x e =
-      let c = choice_of (outcome.Rule x) (resolve switch (listing_of f) ts) e in
+      let c = choice_of (Ok x) (resolve switch (listing_of f) ts) e in
       let k = ruled x.index c.0 c.1 in
       omega (arith, ap length k.fields, k.many, ap (λ (y : Rule). length (arguments_of y)) c.2)

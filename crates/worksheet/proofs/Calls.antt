@@ -17,21 +17,20 @@ use Rattle.calls.specs.Choice.{none_left, Choice, chosen, wrong_count, none_afte
 use Rattle.functions.specs.Functions.{listing_of}
 use Rattle.calls.specs.Call.{answered}
 use Rattle.calls.specs.OutcomePaper.{outcome_paper}
-use Rattle.calls.specs.declared.outcome.Outcome.TheVariants.{Rule, WrongCount, NoneAfter, NoneConcrete}
+use Rattle.calls.specs.declared.outcome.NoRule.TheVariants.{WrongCount, NoneAfter, NoneConcrete}
+use Rattle.std.proofs.Common.{Ok, Err}
 use Rattle.rules.specs.declared.rule.Rule as rules
 use Rattle.rules.specs.declared.rule.Part.{Part}
 use Rattle.lists.specs.declared.list.Chosen.{Chosen}
 use Rattle.scalars.specs.declared.refusal.Refusal.{Refusal}
 use Rattle.scalars.specs.declared.refusal.Refusal.TheVariants as refusal
-use Rattle.scalars.specs.declared.answer.Verdict.TheVariants.{Accepted, Refused}
 use Rattle.scalars.specs.Paper as paper
 use Rattle.worksheet.specs.declared.sheet.Sheet.{Sheet}
 use Rattle.worksheet.specs.declared.stack.Stack.{Stack}
-use Rattle.worksheet.specs.declared.progress.Progress.{Progress}
 use Rattle.machine.specs.Line.{call_line, call_kind, conversions, call_lines, encode}
 use Rattle.worksheet.specs.Typer.{conclude}
 use Rattle.worksheet.specs.private.Sheet.{enough_bytes, Wrote}
-use Rattle.worksheet.specs.private.Stack.{Pushed, Cut}
+use Rattle.worksheet.specs.private.Stack.{top_part, Pushed, Cut}
 use Rattle.worksheet.specs.private.SecondPass.{ConversionRoom, CallThere, CallClaim, OnTop, CallTyped}
 use Rattle.calls.proofs.OutcomePapers.{choice_of, operand-there}
 use Rattle.machine.proofs.LineBytes.{encode_append}
@@ -39,12 +38,8 @@ use Rattle.worksheet.proofs.Room.{four-each, few-conversions}
 use Rattle.worksheet.proofs.Written.{wrote-both, wrote_as}
 use Rattle.worksheet.proofs.CallFacts.{Ruled, ruled}
 
--- a part of a counted array, behind the first ones
-abbrev pub part_of : List ℕ → ℕ → ℕ → List ℕ
-part_of l top n = take (top - (top - n)) (drop (top - n) l)
-
 module _ (l : List ℕ) (top n : ℕ) (ts us : List ℕ) (e : take top l ≡ ts ++ us) (many : length us ≡ n) (low : length ts + n ≡ top) where
-  halves : take (top - n) l ++ part_of l top n ≡ ts ++ us
+  halves : take (top - n) l ++ top_part l top n ≡ ts ++ us
   halves =
       let k : (top - n) + (top - (top - n)) ≡ top = omega arith in
       sym (take-add (top - n) (top - (top - n)) l) ∙ ap (λ i. take i l) k ∙ e
@@ -54,12 +49,12 @@ module _ (l : List ℕ) (top n : ℕ) (ts us : List ℕ) (e : take top l ≡ ts 
 
   front-is : take (top - n) l ≡ ts
   front-is =
-      sym (take_at (take (top - n) l) (part_of l top n) (top - n) front_long) ∙ ap (take (top - n)) halves
+      sym (take_at (take (top - n) l) (top_part l top n) (top - n) front_long) ∙ ap (take (top - n)) halves
       ∙ take_at ts us (top - n) (omega arith)
 
-  part-is : part_of l top n ≡ us
+  part-is : top_part l top n ≡ us
   part-is =
-      sym (drop_at (take (top - n) l) (part_of l top n) (top - n) front_long) ∙ ap (drop (top - n)) halves
+      sym (drop_at (take (top - n) l) (top_part l top n) (top - n) front_long) ∙ ap (drop (top - n)) halves
       ∙ drop_at ts us (top - n) (omega arith)
 
   at_part : (k : ℕ) → k < n → get_or l (top - n + k) 0 ≡ get_or us k 0
@@ -68,16 +63,16 @@ module _ (l : List ℕ) (top n : ℕ) (ts us : List ℕ) (e : take top l ≡ ts 
       sym (get_or-take top l (top - n + k) 0 (omega arith)) ∙ ap₂ (λ m j. get_or m j 0) e i ∙ get_or-append-add ts us k 0
 
 -- the part that is asked has as many operands as the call, or fewer
-pub part_length : (l : List ℕ) (top n : ℕ) → n ≤ top → length (part_of l top n) ≤ n
+pub part_length : (l : List ℕ) (top n : ℕ) → n ≤ top → length (top_part l top n) ≤ n
 part_length l top n h = omega (arith, length-take (top - (top - n)) (drop (top - n) l))
 
-module _ (f n at past : ℕ) (switch : Bool) (s : Stack) (h : Sheet) where
+module _ (f n at : ℕ) (switch : Bool) (s : Stack) (h : Sheet) where
   -- the types and the marks that are asked
   abbrev asked : List ℕ
-  asked = part_of s.types s.top n
+  asked = top_part s.types s.top n
 
   abbrev marked : List ℕ
-  marked = part_of s.marks s.top n
+  marked = top_part s.marks s.top n
 
   module _ (measured concrete : Bool) (any : measured ≡ any_mark marked) (only : concrete ≡ concrete_only switch measured) where
     abbrev choice : Choice
@@ -100,38 +95,38 @@ module _ (f n at past : ℕ) (switch : Bool) (s : Stack) (h : Sheet) where
 
     -- ---- a refusal, with its place
 
-    abbrev ended : Refusal → Progress
-    ended q = record { verdict = Refused q; at = past; stack = s; sheet = h }
-
-    ended_by : (q : Refusal) (c : Choice) → choice ≡ c
+    ended_by : (q : Refusal) (c : Choice) (s' : Stack) (h' : Sheet) → choice ≡ c
         → ((us : List Operand) (qs : List ℕ) → ((k : ℕ) → k < n → get_or s.starts (s.top - n + k) 0 ≡ get_or qs k 0)
-        → (ts ms ps : List ℕ) → CallClaim at past ts ms ps h (ended q) (conclude f at qs us [] c))
-        → CallTyped f n at past switch s h (ended q)
+        → (ts ms ps : List ℕ) → CallClaim at ts ms ps h (Err q) s' h' (conclude f at qs us [] c))
+        → CallTyped f n at switch s h (Err q) s' h'
     unfolding CallTyped
-    ended_by q c e claim ts ms us ps qs on =
-        subst⁻¹ (λ (x : Choice). CallClaim at past ts ms ps h (ended q) (conclude f at qs us [] x)) (told ts ms us ps qs on ∙ e)
+    ended_by q c s' h' e claim ts ms us ps qs on =
+        subst⁻¹ (λ (x : Choice). CallClaim at ts ms ps h (Err q) s' h' (conclude f at qs us [] x)) (told ts ms us ps qs on ∙ e)
         (claim us qs (at_part s.starts s.top n ps qs on.starts_are on.placed on.starts-low) ts ms ps)
 
     -- the operand after which no rule is left is one of the call's
-    pub operand-here : n ≤ s.top → (part : Part) (k : ℕ) → outcome_paper (NoneAfter part k) ≡ answered choice → k < n
+    pub operand-here : n ≤ s.top → (part : Part) (k : ℕ) → outcome_paper (Err (NoneAfter part k)) ≡ answered choice → k < n
     operand-here l part k e =
         omega (
           arith,
-          operand-there concrete (listing_of f) asked part k (choice_of (NoneAfter part k) choice e),
+          operand-there concrete (listing_of f) asked part k (choice_of (Err (NoneAfter part k)) choice e),
           part_length s.types s.top n l,
         )
 
-    pub call-miscounted : outcome_paper WrongCount ≡ answered choice → CallTyped f n at past switch s h (ended (refusal.WrongCount at))
-    call-miscounted e = ended_by (refusal.WrongCount at) wrong_count (choice_of WrongCount choice e) (λ us qs g ts ms ps. refl)
+    module _ (s' : Stack) (h' : Sheet) where
+      pub call-miscounted : outcome_paper (Err WrongCount) ≡ answered choice → CallTyped f n at switch s h (Err (refusal.WrongCount at)) s' h'
+      call-miscounted e =
+          ended_by (refusal.WrongCount at) wrong_count s' h' (choice_of (Err WrongCount) choice e) (λ us qs g ts ms ps. refl)
 
-    pub call-none_after : n ≤ s.top → (part : Part) (k : ℕ) (why : Refusal) → paper.refusal_paper why ≡ paper.refusal (none_left part) (get_or s.starts (s.top - n + k) 0) []
-        → outcome_paper (NoneAfter part k) ≡ answered choice → CallTyped f n at past switch s h (ended why)
-    call-none_after l part k why is e =
-        ended_by why (none_after part k) (choice_of (NoneAfter part k) choice e)
-        (λ us qs g ts ms ps. is ∙ ap (λ (x : ℕ). paper.refusal (none_left part) x []) (g k (operand-here l part k e)))
+      pub call-none_after : n ≤ s.top → (part : Part) (k : ℕ) (why : Refusal) → paper.refusal_paper why ≡ paper.refusal (none_left part) (get_or s.starts (s.top - n + k) 0) []
+          → outcome_paper (Err (NoneAfter part k)) ≡ answered choice → CallTyped f n at switch s h (Err why) s' h'
+      call-none_after l part k why is e =
+          ended_by why (none_after part k) s' h' (choice_of (Err (NoneAfter part k)) choice e)
+          (λ us qs g ts ms ps. is ∙ ap (λ (x : ℕ). paper.refusal (none_left part) x []) (g k (operand-here l part k e)))
 
-    pub call-none_concrete : outcome_paper NoneConcrete ≡ answered choice → CallTyped f n at past switch s h (ended (refusal.EmptySet at))
-    call-none_concrete e = ended_by (refusal.EmptySet at) none_concrete (choice_of NoneConcrete choice e) (λ us qs g ts ms ps. refl)
+      pub call-none_concrete : outcome_paper (Err NoneConcrete) ≡ answered choice → CallTyped f n at switch s h (Err (refusal.EmptySet at)) s' h'
+      call-none_concrete e =
+          ended_by (refusal.EmptySet at) none_concrete s' h' (choice_of (Err NoneConcrete) choice e) (λ us qs g ts ms ps. refl)
 
     -- ---- a rule
 
@@ -146,22 +141,18 @@ module _ (f n at past : ℕ) (switch : Bool) (s : Stack) (h : Sheet) where
     module _ (x : Chosen) (m m' : Sheet) (s' s'' : Stack) (conv : Wrote h (encode (conversions asked (arguments_of x.rule))) m)
         (line : Wrote m (call_kind ∷ f ∷ x.index ∷ n ∷ []) m') (cut : Cut s n s')
         (push : Pushed s' (record { code = x.rule.result; measured = measured } ∷ []) (at ∷ []) s'') where
-      abbrev end : Progress
-      end = record { verdict = Accepted; at = past; stack = s''; sheet = m' }
-
-      pub call-ruled : outcome_paper (Rule x) ≡ answered choice → CallTyped f n at past switch s h end
+      pub call-ruled : outcome_paper (Ok x) ≡ answered choice → CallTyped f n at switch s h (Ok tt) s'' m'
       unfolding CallTyped rule_of
       call-ruled e ts ms us ps qs on =
-          let c = choice_of (Rule x) choice e in
+          let c = choice_of (Ok x) choice e in
           let r = c.0 in
           let rule : rule_of r ≡ x.rule = c.2 in
           let is : resolve_of switch (listing_of f) us ≡ chosen x.index r = told ts ms us ps qs on ∙ c.1 in
           let typed : length (codes us) ≡ n = codes-length us ∙ on.many in
           let marked : length (marks us) ≡ n = marks-length us ∙ on.many in
-          subst⁻¹ (λ (y : Choice). CallClaim at past ts ms ps h end (conclude f at qs us [] y)) is
+          subst⁻¹ (λ (y : Choice). CallClaim at ts ms ps h (Ok tt) s'' m' (conclude f at qs us [] y)) is
           record {
-            verdict_is = refl;
-            at-is = refl;
+            answer_is = refl;
             types_are = push.types_are
                 ∙ ap₂ (λ l t. l ++ (t ∷ []))
                 (ap₂ take cut.top_is cut.types_same ∙ front-is s.types s.top n ts (codes us) on.types_are typed on.types-low)
@@ -181,11 +172,11 @@ module _ (f n at past : ℕ) (switch : Bool) (s : Stack) (h : Sheet) where
 
 -- there is room for the conversions, and then for the call's line
 pub conversion-room : {s : Stack} {h : Sheet} (n : ℕ) (rule : rules.Rule) → CallThere n s h
-    → length (part_of s.types s.top n) ≤ length (arguments_of rule) → ConversionRoom (part_of s.types s.top n) rule h
+    → length (top_part s.types s.top n) ≤ length (arguments_of rule) → ConversionRoom (top_part s.types s.top n) rule h
 conversion-room {s} {h} n rule k t = record { taken = t; room = omega (arith, part_length s.types s.top n k.enough, k.room) }
 
 pub line_room : (n : ℕ) (s : Stack) (h m : Sheet) (az : List ℕ) → CallThere n s h
-    → Wrote h (encode (conversions (part_of s.types s.top n) az)) m → m.len + 4 ≤ enough_bytes
+    → Wrote h (encode (conversions (top_part s.types s.top n) az)) m → m.len + 4 ≤ enough_bytes
 line_room n s h m az k w =
-    let us = part_of s.types s.top n in
+    let us = top_part s.types s.top n in
     omega (arith, w.len_is, four-each (conversions us az), few-conversions us az, part_length s.types s.top n k.enough, k.room)

@@ -8,5 +8,4 @@ pub mod Pushes
 pub mod Typings
 pub mod Passes
 pub mod Whole
-pub mod RootAnswers
 pub mod Lengths

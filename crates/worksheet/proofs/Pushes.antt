@@ -4,12 +4,13 @@ use mathlib.Core.Path.{◌≡◌, sym, ap, ◌∙◌}
 use mathlib.Core.List.{List, [], ◌++◌, append_assoc, append-nil}
 use Prim.Native.Nat.{ℕ}
 use native.Mathlib.Omega.{arith}
-use lib.ListN.{length, take, length-append}
+use lib.ListN.{length, length-append}
+use lib.Seq.{length-take-le}
 use Rattle.types.specs.Operand.{codes, marks}
 use Rattle.types.specs.declared.operand.Operand.{Operand}
-use Rattle.types.proofs.Operands.{codes-length, marks-length, codes_append, marks_append}
+use Rattle.types.proofs.Operands.{codes_append, marks_append}
 use Rattle.worksheet.specs.declared.stack.Stack.{Stack}
-use Rattle.worksheet.specs.private.Stack.{types_on, marks_on, starts_on, Counted, Pushed}
+use Rattle.worksheet.specs.private.Stack.{types_on, marks_on, starts_on, Pushed}
 
 pub pushed-nothing : (s : Stack) → Pushed s [] [] s
 pushed-nothing s = record {
@@ -32,16 +33,13 @@ pushed-both {s} {m} {r} {os} {os'} {ps} {ps'} a b = record {
   top_is = omega (arith, a.top_is, b.top_is, length-append os os');
 }
 
-pub pushed-full : {s r : Stack} {os : List Operand} {ps : List ℕ} → Counted s → length os ≡ length ps → Pushed s os ps r → Counted r
-pushed-full {s} {r} {os} {ps} f e k = record {
-  types-full = omega (arith, ap length k.types_are, length-append (types_on s) (codes os), codes-length os, f.types-full, k.top_is);
-  marks-full = omega (arith, ap length k.marks_are, length-append (marks_on s) (marks os), marks-length os, f.marks-full, k.top_is);
-  starts-full = omega (arith, ap length k.starts_are, length-append (starts_on s) ps, f.starts-full, k.top_is);
-}
+-- there are as many of each as the stack counts
+module _ (s : Stack) where
+  pub types-full : length (types_on s) ≡ s.top
+  types-full = length-take-le s.top s.types (omega (arith, s.types_long, s.few))
 
-pub empty-full : (s : Stack) → s.top ≡ 0 → Counted s
-empty-full s e = record {
-  types-full = ap (λ n. length (take n s.types)) e ∙ sym e;
-  marks-full = ap (λ n. length (take n s.marks)) e ∙ sym e;
-  starts-full = ap (λ n. length (take n s.starts)) e ∙ sym e;
-}
+  pub marks-full : length (marks_on s) ≡ s.top
+  marks-full = length-take-le s.top s.marks (omega (arith, s.marks_long, s.few))
+
+  pub starts-full : length (starts_on s) ≡ s.top
+  starts-full = length-take-le s.top s.starts (omega (arith, s.starts_long, s.few))

@@ -13,29 +13,43 @@ use Rattle.types.specs.Operand.{mark_of, operand_of}
 use Rattle.types.specs.declared.operand.Operand.{Operand}
 use Rattle.types.proofs.Operands.{operand-back}
 use Rattle.functions.specs.Functions.{function_count, listing_of}
-use Rattle.scalars.specs.Paper.{Paper, accepted, refusal}
+use Rattle.scalars.specs.Paper.{Paper, accepted, refusal, answer_paper, verdict_paper}
+use Rattle.scalars.specs.Paper as paper
 use Rattle.worksheet.specs.declared.sheet.Sheet.{Sheet}
 use Rattle.worksheet.specs.declared.stack.Stack.{Stack}
-use Rattle.worksheet.specs.declared.progress.Progress.{Progress}
+use Rattle.std.specs.declared.result.Result.{Result}
+use Rattle.std.proofs.Common.{Ok, Err}
+use Rattle.scalars.specs.declared.refusal.Refusal.{Refusal}
 use Rattle.expressions.specs.Tree.{Tree, bytes_of}
 use Rattle.expressions.specs.Reading.{read, expression_of, read_of}
 use Rattle.machine.specs.Line.{Line, encode}
 use Rattle.worksheet.specs.Typer.{Typed, typed, refused, type_of}
 use Rattle.worksheet.specs.Answer.{with_room, buffer_after}
 use Rattle.worksheet.specs.private.Sheet.{written}
-use Rattle.worksheet.specs.Typing.{typing_of, typing, no_type, answer_of}
+use Rattle.worksheet.specs.Typing.{typing_of, typing, no_type, type_values, answer_of}
 use Rattle.worksheet.specs.private.Stack.{types_on, marks_on, operand_at}
-use Rattle.worksheet.specs.private.SecondPass.{NodeThere, NodeClaim, NodeTyped, SheetFits, room_answer, root_answer, root_buffer}
+use Rattle.worksheet.specs.private.SecondPass.{NodeThere, NodeClaim, NodeTyped}
 use Rattle.expressions.proofs.Sound.{Spelt, read-spelt}
-use Rattle.expressions.proofs.Answers.{accepted-tree, refused-fault}
-use Rattle.worksheet.proofs.Pushes.{empty-full}
+use Rattle.expressions.proofs.Answers.{accepted-refused, accepted-tree, refused-fault}
 use Rattle.worksheet.proofs.Passes.{clash}
 use Rattle.lending.specs.Bytes.{room_for, placed}
 use Rattle.lending.proofs.Placed.{placed-short, placed-fits}
 
 -- an answer and a buffer that are those of a typing
-abbrev Answered : List ℕ → Typed Operand → Paper → List ℕ → Type 0
+abbrev pub Answered : List ℕ → Typed Operand → Paper → List ℕ → Type 0
 Answered d x a d' = (a ≡ answer_of x) × (d' ≡ buffer_after x d)
+
+-- the operand's values and the length, where there is room
+abbrev room_answer : Operand → ℕ → Paper → Paper
+room_answer o n (accepted vs) = accepted (type_values o n)
+room_answer o n (refusal number place vs) = refusal number place no_type
+
+abbrev pub answer_by : Operand → ℕ → Result Unit Refusal → Paper
+answer_by o n = answer_paper (λ done. type_values o n) no_type
+
+by_room : (o : Operand) (n : ℕ) (room : Result Unit Refusal) → answer_by o n room ≡ room_answer o n (verdict_paper room)
+by_room o n (Ok done) = refl
+by_room o n (Err why) = refl
 
 -- the room comes last
 with_room_lem : (d : List ℕ) (t : Operand) (ls : List Line) (result : Operand) (needed : ℕ) (bs : List ℕ)
@@ -74,44 +88,43 @@ module _ (switch : Bool) (s d : List ℕ) where
             tree = e;
             tail = [];
             text = text;
-            full = empty-full st top;
             stack_room = omega (arith, spelt.few);
             sheet-room = omega (arith, spelt.few);
           }
 
-      module _ (r : Progress) (done : NodeTyped s 0 switch st h r) where
-        claim : (e : Tree) → drop 0 s ≡ bytes_of e ++ [] → NodeClaim e 0 st h r (type_of listing_of switch e 0)
-        unfolding NodeTyped
-        claim e text = done e [] text
+      -- a refusal of the second pass is the typing's
+      pub second_fault_lem : (why : Refusal) (st' : Stack) (h' : Sheet) → NodeTyped s 0 switch st h (Err why) st' h'
+          → Answered d (typing switch s d) (paper.refused why no_type) d
+      unfolding NodeTyped typing_of
+      second_fault_lem why st' h' done =
+          let (e, x, text, spelt) = tree in
+          rw x (go e (type_of listing_of switch e 0) (done e [] text))
+        where
+          go : (e : Tree) (x : Typed Operand) → NodeClaim e 0 st h (Err why) st' h' x → Answered d (with_room d x) (paper.refused why no_type) d
+          go e (refused k p) c = (cc, refl)
+          go e (typed t ls) c = clash c.answer_is
 
-        pub root-fits : SheetFits r
-        root-fits clean =
-            let (e, x, text, spelt) = tree in
-            go e (type_of listing_of switch e 0) (claim e text)
-          where
-            go : (e : Tree) (x : Typed Operand) → NodeClaim e 0 st h r x → length (written r.sheet) ≡ r.sheet.len
-            go e (refused k p) c = clash clean c
-            go e (typed t ls) c =
-                ap length (c.wrote.bytes_are ∙ ap (λ i. take i h.bytes ++ encode ls) len) ∙ omega (arith, c.wrote.len_is, len)
-
-        -- the second pass is the typing of the tree, without the room
-        typed-root : (e : Tree) (x : Typed Operand) → NodeClaim e 0 st h r x → Answered d (with_room d x) (root_answer r (length d)) (root_buffer r d)
-        typed-root e (refused k p) c = rw c (refl, refl)
+      -- otherwise its operand and lines are, but for the room
+      module _ (past : ℕ) (st' : Stack) (h' : Sheet) (done : NodeTyped s 0 switch st h (Ok past) st' h') (room : Result Unit Refusal)
+          (told : verdict_paper room ≡ room_for (length (written h')) (length d)) where
+        typed-root : (e : Tree) (x : Typed Operand) → NodeClaim e 0 st h (Ok past) st' h' x
+            → Answered d (with_room d x) (answer_by (operand_at st' 0) (length (written h')) room) (placed (written h') d)
+        typed-root e (refused k p) c = accepted-refused c
         typed-root e (typed t ls) c =
-            let types : types_on r.stack ≡ t.code ∷ [] = c.pushed.types_are ∙ ap (λ i. take i st.types ++ (t.code ∷ [])) top in
-            let marks : marks_on r.stack ≡ mark_of t.measured ∷ [] =
+            let types : types_on st' ≡ t.code ∷ [] = c.pushed.types_are ∙ ap (λ i. take i st.types ++ (t.code ∷ [])) top in
+            let marks : marks_on st' ≡ mark_of t.measured ∷ [] =
             c.pushed.marks_are ∙ ap (λ i. take i st.marks ++ (mark_of t.measured ∷ [])) top in
-            let here : 0 < r.stack.top = omega (arith, c.pushed.top_is) in
-            let first : (l : List ℕ) (x : ℕ) → take r.stack.top l ≡ x ∷ [] → get_or l 0 0 ≡ x =
-            λ l x e. sym (get_or-take r.stack.top l 0 0 here) ∙ ap (λ k. get_or k 0 0) e in
-            let result : operand_at r.stack 0 ≡ t =
-            ap₂ operand_of (first r.stack.types t.code types) (first r.stack.marks (mark_of t.measured) marks) ∙ operand-back t in
-            let bytes : written r.sheet ≡ encode ls = c.wrote.bytes_are ∙ ap (λ i. take i h.bytes ++ encode ls) len in
-            let long : r.sheet.len ≡ length (encode ls) = omega (arith, c.wrote.len_is) in
-            rw c.verdict_is (with_room_lem d t ls (operand_at r.stack 0) r.sheet.len (written r.sheet) result bytes long)
+            let here : 0 < st'.top = omega (arith, c.pushed.top_is) in
+            let first : (l : List ℕ) (x : ℕ) → take st'.top l ≡ x ∷ [] → get_or l 0 0 ≡ x =
+            λ l x e. sym (get_or-take st'.top l 0 0 here) ∙ ap (λ k. get_or k 0 0) e in
+            let result : operand_at st' 0 ≡ t =
+            ap₂ operand_of (first st'.types t.code types) (first st'.marks (mark_of t.measured) marks) ∙ operand-back t in
+            let bytes : written h' ≡ encode ls = c.wrote.bytes_are ∙ ap (λ i. take i h.bytes ++ encode ls) len in
+            rw (by_room (operand_at st' 0) (length (written h')) room, told)
+            (with_room_lem d t ls (operand_at st' 0) (length (written h')) (written h') result bytes (ap length bytes))
 
-        pub root_answer_lem : Answered d (typing switch s d) (root_answer r (length d)) (root_buffer r d)
-        unfolding typing_of
+        pub root_answer_lem : Answered d (typing switch s d) (answer_by (operand_at st' 0) (length (written h')) room) (placed (written h') d)
+        unfolding NodeTyped typing_of
         root_answer_lem =
             let (e, x, text, spelt) = tree in
-            rw x (typed-root e (type_of listing_of switch e 0) (claim e text))
+            rw x (typed-root e (type_of listing_of switch e 0) (done e [] text))

@@ -1,18 +1,12 @@
 -- Bytes written one behind the other.
 -- Assumes nothing.
 use mathlib.Core.Path.{◌≡◌, sym, ap, ◌∙◌}
-use mathlib.Core.List.{List, [], ◌∷◌, ◌++◌, append_assoc, append-nil}
-use Prim.Native.Nat.{ℕ, ◌+◌, ◌<◌}
-use native.Mathlib.Numerals.{add-one}
+use mathlib.Core.List.{List, [], ◌++◌, append_assoc, append-nil}
+use Prim.Native.Nat.{ℕ}
 use native.Mathlib.Omega.{arith}
-use lib.ListN.{length, take, set, length-append}
-use lib.Seq.{take-suc-set}
+use lib.ListN.{length-append}
 use Rattle.worksheet.specs.declared.sheet.Sheet.{Sheet}
 use Rattle.worksheet.specs.private.Sheet.{Wrote, written}
-
--- one more in a counted array
-pub one_more : (s : List ℕ) (i a : ℕ) → i < length s → take (i + 1) (set s i a) ≡ take i s ++ (a ∷ [])
-one_more s i a h = rw (add-one, take-suc-set s i a)
 
 -- bytes behind bytes
 pub wrote-both : {h m r : Sheet} {bs bs' : List ℕ} → Wrote h bs m → Wrote m bs' r → Wrote h (bs ++ bs') r

@@ -9,8 +9,9 @@ use Rattle.rules.specs.Signature.{Signature}
 use Rattle.functions.specs.Functions.{function_count, listing_of}
 use Rattle.expressions.specs.Reading.{Expression, read, refused_as, expression_of}
 use Rattle.machine.specs.Line.{encode}
-use Rattle.worksheet.specs.declared.typer.TypeAnswer.{TypeAnswer}
-use Rattle.worksheet.specs.declared.typer.TypeAnswer.TheVariants as answer
+use Rattle.scalars.specs.declared.refusal.Refusal.{Refusal}
+use Rattle.std.specs.declared.result.Result.{Result}
+use Rattle.worksheet.specs.declared.typer.Typed as answer
 use Rattle.worksheet.specs.Typer.{Typed, typed, refused, type_of}
 use Rattle.worksheet.specs.Answer.{with_room}
 
@@ -39,6 +40,5 @@ abbrev pub answer_of : Typed Operand → Paper
 answer_of (typed o ls) = paper.accepted (type_values o (length (encode ls)))
 answer_of (refused number place) = paper.refusal number place no_type
 
-abbrev pub type_paper : TypeAnswer → Paper
-type_paper (answer.Typed o n) = paper.accepted (type_values o n)
-type_paper (answer.Refused why) = paper.refused why no_type
+abbrev pub type_paper : Result answer.Typed Refusal → Paper
+type_paper = paper.answer_paper (λ (t : answer.Typed). type_values t.result t.len) no_type

@@ -3,10 +3,9 @@
 #![tactic(auto)]
 
 mod one_call;
-mod progress;
 mod sheet;
 mod stack;
 mod typer;
 
 pub use sheet::ENOUGH_BYTES;
-pub use typer::{TypeAnswer, type_expression};
+pub use typer::{Typed, type_expression};

@@ -7,78 +7,60 @@ ghost use Rattle.machine.specs.Line.{encode, conversions};
 ghost use Rattle.worksheet.specs.private.Sheet.{Wrote};
 ghost use Rattle.worksheet.specs.private.SecondPass.{ConversionRoom, CallThere, CallTyped};
 
-use crate::progress::Progress;
 use crate::sheet::Sheet;
 use crate::stack::Stack;
-use calls::{Outcome, none_left, outcome_of};
+use calls::{NoRule, none_left, outcome_of};
 use machine::{CALL_LINE, CONVERSION_LINE, SPARE};
 use rules::Rule;
-use scalars::{Refusal, Verdict};
+use scalars::Refusal;
 use types::{Operand, any_measured, concrete_only};
 
-// Types the call at `at`, whose operands are the last `count` on the stack, and whose last byte stands before `past`. A wrong count and
-// an empty set are refused at the call's tag, an operand of a wrong shape or number at its first byte.
+// Types the call at `at`, whose operands are the last `count` on the stack. A wrong count and an empty set are refused at the call's tag,
+// an operand of a wrong shape or number at its first byte.
 pub(crate) fn type_call(
     function: u8,
     count: u8,
     at: usize,
-    past: usize,
     switch: bool,
-    stack: Stack,
-    sheet: Sheet,
-) -> Progress
-    requires { CallThere count stack sheet }
-    ensures { CallTyped function count at past switch stack sheet result }
+    stack: &mut Stack,
+    sheet: &mut Sheet,
+) -> Result<(), Refusal>
+    requires { CallThere count stack.old sheet.old }
+    ensures { CallTyped function count at switch stack.old sheet.old result stack.new sheet.new }
 {
-    let n = count as usize;
-    let top = stack.top;
-    let from = top - n;
-    let types = stack.types;
-    let marks = stack.marks;
-    let starts = stack.starts;
-    let operands = &types[from..top];
-    let measured = any_measured(&marks[from..top]);
+    let n = usize::from(count);
+    let from = stack.top - n;
+    let operands = stack.types_on_top(n);
+    let measured = any_measured(stack.marks_on_top(n));
     match outcome_of(function, operands, concrete_only(switch, measured)) {
-        Outcome::WrongCount => Progress::refused(Refusal::WrongCount(at), past, stack, sheet),
-        Outcome::NoneAfter(part, k) => {
-            let operand = from + k;
-            let start = starts[operand];
-            Progress::refused(none_left(part, start), past, stack, sheet)
-        }
-        Outcome::NoneConcrete => Progress::refused(Refusal::EmptySet(at), past, stack, sheet),
-        Outcome::Rule(chosen) => {
-            let rule = chosen.rule;
-            let converted = convert(operands, rule, sheet);
-            let lined = converted.line(CALL_LINE, function, chosen.index, count);
+        Ok(chosen) => {
+            convert(operands, chosen.rule, sheet);
+            sheet.line(CALL_LINE, function, chosen.index, count);
             let result = Operand {
-                code: rule.result,
+                code: chosen.rule.result,
                 measured,
             };
-            let pushed = stack.cut(n).push(result, at);
-            Progress {
-                verdict: Verdict::Accepted,
-                at: past,
-                stack: pushed,
-                sheet: lined,
-            }
+            stack.cut(n);
+            stack.push(result, at);
+            Ok(())
         }
+        Err(NoRule::WrongCount) => Err(Refusal::WrongCount(at)),
+        Err(NoRule::NoneAfter(part, k)) => Err(none_left(part, stack.starts[from + k])),
+        Err(NoRule::NoneConcrete) => Err(Refusal::EmptySet(at)),
     }
 }
 
-// Writes the conversions of a call's operands to the rule's arguments, by ascending argument, only where types differ.
-fn convert(operands: &[u8], rule: Rule, sheet: Sheet) -> Sheet
-    requires { ConversionRoom operands.now rule sheet }
-    ensures { Wrote sheet (encode (conversions operands.now (arguments_of rule))) result }
+// Writes the conversions of a call's operands to the rule's arguments, by ascending argument, only where types differ. With indices, since
+// a rule's arguments are fields, and a conversion names its operand by its depth.
+fn convert(operands: &[u8], rule: Rule, sheet: &mut Sheet)
+    requires { ConversionRoom operands.now rule sheet.old }
+    ensures { Wrote sheet.old (encode (conversions operands.now (arguments_of rule))) sheet.new }
 {
-    let mut lines = sheet;
-    let mut i: usize = 0;
-    while i < operands.len() {
+    for (i, operand) in operands.iter().enumerate() {
         let depth = operands.len() - 1 - i;
         let wanted = rule.argument(i);
-        if operands[i] != wanted {
-            lines = lines.line(CONVERSION_LINE, depth as u8, wanted, SPARE);
+        if *operand != wanted {
+            sheet.line(CONVERSION_LINE, depth as u8, wanted, SPARE);
         }
-        i += 1;
     }
-    lines
 }

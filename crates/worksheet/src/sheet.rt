@@ -1,10 +1,10 @@
 // A bounded run of bytes that is written front to back.
 //
 // A worksheet is written here first and lent once, when its whole length is known to fit: so a refusal leaves the lent buffer as it was.
-// Bytes are put one at a time, and four of them make a line.
+// Four bytes at a time make a line. The array stands beside its length, since nothing is on a heap.
 
-ghost use Rattle.std.specs.Prelude.{◌≡◌, [], ◌∷◌, ◌+◌, ◌≤◌, ◌<◌};
-ghost use Rattle.worksheet.specs.private.Sheet.{enough_bytes, Wrote};
+ghost use Rattle.std.specs.Prelude.{◌≡◌, ◌≤◌, length};
+ghost use Rattle.worksheet.specs.private.Room.{enough_bytes};
 
 // So many bytes hold the worksheet of any expression within the limits: fewer than two lines for each of `MOST_NODES` nodes.
 pub const ENOUGH_BYTES: usize = 508;
@@ -12,11 +12,16 @@ pub const ENOUGH_BYTES: usize = 508;
 // The bytes written so far are the first `len`.
 #[derive(Clone, Copy)]
 pub(crate) struct Sheet {
-    pub(crate) bytes: [u8; ENOUGH_BYTES],
-    pub(crate) len: usize,
+    bytes: [u8; ENOUGH_BYTES],
+    len: usize,
+    ghost long: { length bytes ≡ enough_bytes },
+    ghost few: { len ≤ enough_bytes },
 }
 
 impl Sheet {
+    ghost use Rattle.std.specs.Prelude.{[], ◌∷◌, ◌+◌};
+    ghost use Rattle.worksheet.specs.private.Sheet.{Wrote, written};
+
     // With nothing written.
     pub(crate) fn new() -> Self
         ensures { result.len ≡ 0 }
@@ -27,22 +32,20 @@ impl Sheet {
         }
     }
 
-    // One byte more.
-    fn put(mut self, byte: u8) -> Self
-        requires { self.len < enough_bytes }
-        ensures { Wrote self (byte ∷ []) result }
+    // The bytes written so far.
+    pub(crate) fn written(&self) -> &[u8]
+        ensures { result.now ≡ written self.now }
     {
-        let at = self.len;
-        self.bytes[at] = byte;
-        self.len = at + 1;
-        self
+        &self.bytes[..self.len]
     }
 
     // Four bytes more.
-    pub(crate) fn line(self, a: u8, b: u8, c: u8, d: u8) -> Self
-        requires { self.len + 4 ≤ enough_bytes }
-        ensures { Wrote self (a ∷ b ∷ c ∷ d ∷ []) result }
+    pub(crate) fn line(&mut self, a: u8, b: u8, c: u8, d: u8)
+        requires { self.old.len + 4 ≤ enough_bytes }
+        ensures { Wrote self.old (a ∷ b ∷ c ∷ d ∷ []) self.new }
     {
-        self.put(a).put(b).put(c).put(d)
+        let end = self.len + 4;
+        self.bytes[self.len..end].copy_from_slice(&[a, b, c, d]);
+        self.len = end;
     }
 }

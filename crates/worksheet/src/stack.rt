@@ -1,9 +1,9 @@
 // The operands of the second pass: the type of each, its mark, and the offset of its first byte, at which a call that has no rule for it
-// is refused. An expression has at most `MOST_NODES` nodes, so no more operands wait at once.
+// is refused. An expression has at most `MOST_NODES` nodes, so no more operands wait at once. They stand in three arrays of fixed size
+// side by side, because a call is asked by its operands' types and marks as slices.
 
-ghost use Rattle.std.specs.Prelude.{◌≡◌, [], ◌∷◌, ◌<◌, ◌≤◌};
+ghost use Rattle.std.specs.Prelude.{◌≡◌, ◌≤◌, length};
 ghost use Rattle.machine.specs.Machine.{most_operands};
-ghost use Rattle.worksheet.specs.private.Stack.{operand_at, Pushed, Cut};
 
 use expressions::MOST_NODES;
 use types::{CONSTANT, Operand};
@@ -15,9 +15,16 @@ pub(crate) struct Stack {
     pub(crate) marks: [u8; MOST_NODES],
     pub(crate) starts: [usize; MOST_NODES],
     pub(crate) top: usize,
+    ghost types_long: { length types ≡ most_operands },
+    ghost marks_long: { length marks ≡ most_operands },
+    ghost starts_long: { length starts ≡ most_operands },
+    ghost few: { top ≤ most_operands },
 }
 
 impl Stack {
+    ghost use Rattle.std.specs.Prelude.{[], ◌∷◌, ◌<◌};
+    ghost use Rattle.worksheet.specs.private.Stack.{operand_at, top_part, Pushed, Cut};
+
     // With no operand.
     pub(crate) fn new() -> Self
         ensures { result.top ≡ 0 }
@@ -31,32 +38,48 @@ impl Stack {
     }
 
     // One operand more, whose first byte is at `start`.
-    pub(crate) fn push(mut self, operand: Operand, start: usize) -> Self
-        requires { self.top < most_operands }
-        ensures { Pushed self (operand ∷ []) (start ∷ []) result }
+    pub(crate) fn push(&mut self, operand: Operand, start: usize)
+        requires { self.old.top < most_operands }
+        ensures { Pushed self.old (operand ∷ []) (start ∷ []) self.new }
     {
         let at = self.top;
         self.types[at] = operand.code;
         self.marks[at] = operand.mark();
         self.starts[at] = start;
         self.top = at + 1;
-        self
     }
 
     // The operand of a number, counted from the bottom.
-    pub(crate) fn operand(self, i: usize) -> Operand
+    pub(crate) fn operand(&self, i: usize) -> Operand
         requires { i < most_operands }
-        ensures { result ≡ operand_at self i }
+        ensures { result ≡ operand_at self.now i }
     {
         Operand::of(self.types[i], self.marks[i])
     }
 
-    // Without the `count` operands on top.
-    pub(crate) fn cut(mut self, count: usize) -> Self
-        requires { count ≤ self.top }
-        ensures { Cut self count result }
+    // The types of the `count` operands on top.
+    pub(crate) fn types_on_top(&self, count: usize) -> &[u8]
+        requires { count ≤ self.now.top }
+        ensures { result.now ≡ top_part self.now.types self.now.top count }
     {
-        self.top = self.top - count;
-        self
+        let types: &[u8] = &self.types;
+        &types[self.top - count..self.top]
+    }
+
+    // The marks of the `count` operands on top. A function of its own: which array is meant would be one more parameter.
+    pub(crate) fn marks_on_top(&self, count: usize) -> &[u8]
+        requires { count ≤ self.now.top }
+        ensures { result.now ≡ top_part self.now.marks self.now.top count }
+    {
+        let marks: &[u8] = &self.marks;
+        &marks[self.top - count..self.top]
+    }
+
+    // Takes off the `count` operands on top.
+    pub(crate) fn cut(&mut self, count: usize)
+        requires { count ≤ self.old.top }
+        ensures { Cut self.old count self.new }
+    {
+        self.top -= count;
     }
 }

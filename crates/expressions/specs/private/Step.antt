@@ -1,20 +1,17 @@
 -- What the private functions of src/expression.rt answer. They build no tree: each answers what the definition of the first pass reads,
 -- with the tree left out.
+use Rattle.std.specs.declared.result.Result.{Result}
 use Rattle.std.specs.Prelude.{[], ◌∷◌, ℕ, suc, ◌-◌}
 use Rattle.scalars.specs.Paper as paper
-use Rattle.scalars.specs.Paper.{Paper}
-use Rattle.expressions.specs.declared.expression.Step.{Step}
-use Rattle.expressions.specs.declared.expression.Step.TheVariants.{Past, Unknown, IllFormed, TooLarge, Abstract}
+use Rattle.scalars.specs.Paper.{Paper, answer_paper}
+use Rattle.scalars.specs.declared.refusal.Refusal.{Refusal}
+use Rattle.expressions.specs.declared.expression.Past.{Past}
 use Rattle.expressions.specs.Tree.{deepest}
 use Rattle.expressions.specs.Reading.{Reading, done, refused}
 
 -- the offset behind what was read and the number of nodes, or the fault
-abbrev pub step_paper : Step → Paper
-step_paper (Past at nodes) = paper.accepted (at ∷ nodes ∷ [])
-step_paper (Unknown place) = paper.refusal 7 place []
-step_paper (IllFormed place) = paper.refusal 8 place []
-step_paper (TooLarge place) = paper.refusal 9 place []
-step_paper (Abstract place) = paper.refusal 17 place []
+abbrev pub step_paper : Result Past Refusal → Paper
+step_paper = answer_paper (λ (past : Past). past.at ∷ past.nodes ∷ []) []
 
 -- the same of a reading
 abbrev pub step_of : {A : Type 0} → Reading A → Paper

@@ -1,17 +1,17 @@
--- What the private functions of src/machine.rt answer. A stack there is an array of operands with a count: the operands are its front, the
--- topmost last, and a line leaves another stack or stops.
-use Rattle.std.specs.Prelude.{◌≡◌, Bool, true, false, not, List, reverse, ℕ, ◌-◌, ◌≤◌, leb, length, take, drop}
+-- What the methods of src/stack.rt answer. A stack there is an array of operands with a count: the operands are its front, the
+-- topmost last, and a line leaves other operands on it or stops.
+use Rattle.std.specs.Prelude.{Bool, not, List, reverse, ℕ, ◌-◌, leb, take, drop, Some, None}
+use Rattle.std.specs.declared.option.Option as answer
 use Rattle.std.proofs.Math.Option.{Option, none, some}
 use Rattle.scalars.specs.Paper.{Paper}
 use Rattle.types.specs.Operand.{measured_abstract}
 use Rattle.types.specs.declared.operand.Operand.{Operand}
 use Rattle.rules.specs.Rule.{arguments_of}
 use Rattle.rules.specs.declared.rule.Rule.{Rule}
-use Rattle.machine.specs.declared.machine.Stack.{Stack}
-use Rattle.machine.specs.declared.machine.Stepped.{Stepped}
+use Rattle.machine.specs.declared.stack.Stack.{Stack}
 use Rattle.expressions.specs.Tree.{last_leaf}
 use Rattle.machine.specs.Line.{only_if}
-use Rattle.machine.specs.Machine.{ended, most_operands, same}
+use Rattle.machine.specs.Machine.{ended, same}
 use Rattle.machine.specs.private.TopLast.{push_last}
 use Rattle.machine.specs.Run.{ran_of}
 
@@ -19,25 +19,10 @@ use Rattle.machine.specs.Run.{ran_of}
 abbrev pub operands_on : Stack → List Operand
 operands_on k = take k.top k.operands
 
--- there is room for 64 operands, and no more are counted
-pub record InBounds (k : Stack) : Type 0 where
-  pub long : length k.operands ≡ most_operands
-  pub few : k.top ≤ most_operands
-
--- a stack of these operands
-pub record Holds (s : List Operand) (k : Stack) : Type 0 where
-  pub fits : InBounds k
-  pub operands_are : operands_on k ≡ s
-
--- a line was done and left these operands
-pub record Done (s : List Operand) (r : Stepped) : Type 0 where
-  pub done-is : r.done ≡ true
-  pub holds : Holds s r.stack
-
--- what a line does to a stack, or that it stops
-abbrev pub Did : Option (List Operand) → Stepped → Type 0
-Did none r = r.done ≡ false
-Did (some s) r = Done s r
+-- the operands that a line left on the stack, or that it stopped
+abbrev pub left : answer.Option Unit → Stack → Option (List Operand)
+left (Some done) k = some (operands_on k)
+left None k = none
 
 -- a leaf's line, behind the test of its mark and its spare byte
 abbrev pub leaf_done : Operand → List Operand → Option (List Operand)

@@ -14,7 +14,7 @@ use Rattle.rules.specs.declared.rule.Predeclared.TheVariants as predeclared
 use Rattle.types.specs.declared.constructor_set.ConstructorSize.{ConstructorSize}
 use Rattle.types.specs.declared.constructor_set.ConstructorSize.TheVariants as size
 use Rattle.regular.specs.declared.regular.Regular.{Regular}
-use Rattle.regular.specs.declared.regular.Codes.{Codes}
+use Rattle.rules.specs.declared.listing.AllowedArgs.{AllowedArgs}
 use Rattle.scalars.specs.Domain.{scalar_count, i32, u32, f32}
 use Rattle.types.specs.Domain.{constructor_count, bi, quad}
 
@@ -46,14 +46,14 @@ unfoldable pub concluded_listing : Regular → Paper
 concluded_listing r = choose (all_conclude r) (accepted_listing (regular_rules r)) (refusal 13 0 no_listing)
 
 -- the argument types in an array
-unfoldable pub codes_found : List ℕ → Codes
+unfoldable pub codes_found : List ℕ → AllowedArgs
 codes_found ts = record { codes = padded most_listed unused ts; count = length ts }
 
 -- types put behind those that an array holds
-unfoldable pub put : Codes → List ℕ → Codes
+unfoldable pub put : AllowedArgs → List ℕ → AllowedArgs
 put found ts = record { codes = sets found.codes found.count ts; count = found.count + length ts }
 
-pub record RowFits (found : Codes) (constructor scalars : ℕ) : Type 0 where
+pub record RowFits (found : AllowedArgs) (constructor scalars : ℕ) : Type 0 where
   pub known : constructor < constructor_count
   pub masked : scalars < 2 ^ scalar_count
   pub room : found.count + length (bits scalar_count scalars) ≤ most_listed

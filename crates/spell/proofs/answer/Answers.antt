@@ -3,7 +3,6 @@ use Rattle.std.proofs.Common.{length, arith}
 use Rattle.text.proofs.Fits.{written-fits}
 use Rattle.spell.proofs.answer.Goals as goal
 
-pub print_text-requires : goal.print_text-requires
-print_text-requires g c =
-    let fits = written-fits c.args.input.now (length c.args.text.now) _ c.in-Made.ensures.answer in
-    omega arith
+pub slice_bounds-write_all-end : goal.slice_bounds-write_all-end
+slice_bounds-write_all-end g c =
+    omega (arith, written-fits c.args.input.now (length c.args.text.now) _ c.in-Ok.ensures.answer)

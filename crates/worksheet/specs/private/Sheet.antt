@@ -1,10 +1,7 @@
 -- What the functions of src/sheet.rt promise: bytes behind those written so far.
 use Rattle.std.specs.Prelude.{◌≡◌, List, ◌++◌, ℕ, ◌+◌, length, take}
 use Rattle.worksheet.specs.declared.sheet.Sheet.{Sheet}
-
--- 'a 508-byte buffer, which always suffices': the size of the sheet
-abbrev pub enough_bytes : ℕ
-enough_bytes = 508
+pub use Rattle.worksheet.specs.private.Room.{enough_bytes}
 
 -- the bytes written so far
 abbrev pub written : Sheet → List ℕ

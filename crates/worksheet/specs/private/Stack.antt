@@ -1,5 +1,5 @@
 -- What the functions of src/stack.rt promise: operands on top of others, and operands taken off.
-use Rattle.std.specs.Prelude.{◌≡◌, List, ◌++◌, ℕ, ◌+◌, ◌-◌, length, get_or, take}
+use Rattle.std.specs.Prelude.{◌≡◌, List, ◌++◌, ℕ, ◌+◌, ◌-◌, length, get_or, take, drop}
 use Rattle.types.specs.Operand.{operand_of, codes, marks}
 use Rattle.types.specs.declared.operand.Operand.{Operand}
 use Rattle.worksheet.specs.declared.stack.Stack.{Stack}
@@ -14,12 +14,6 @@ marks_on s = take s.top s.marks
 abbrev pub starts_on : Stack → List ℕ
 starts_on s = take s.top s.starts
 
--- there are as many of each as the stack counts
-pub record Counted (s : Stack) : Type 0 where
-  pub types-full : length (types_on s) ≡ s.top
-  pub marks-full : length (marks_on s) ≡ s.top
-  pub starts-full : length (starts_on s) ≡ s.top
-
 -- these operands, which begin at these offsets, were pushed onto those of s
 pub record Pushed (s : Stack) (os : List Operand) (ps : List ℕ) (r : Stack) : Type 0 where
   pub types_are : types_on r ≡ types_on s ++ codes os
@@ -30,6 +24,10 @@ pub record Pushed (s : Stack) (os : List Operand) (ps : List ℕ) (r : Stack) : 
 -- the operand of a number, counted from the bottom
 abbrev pub operand_at : Stack → ℕ → Operand
 operand_at s i = operand_of (get_or s.types i 0) (get_or s.marks i 0)
+
+-- what stands on top in an array of which so many are counted
+abbrev pub top_part : List ℕ → ℕ → ℕ → List ℕ
+top_part l top n = take (top - (top - n)) (drop (top - n) l)
 
 -- the operands on top were taken off
 pub record Cut (s : Stack) (n : ℕ) (r : Stack) : Type 0 where

@@ -10,21 +10,6 @@ use Rattle.c_sets.proofs.list_parts.rules_in.Goals as goal
 pub loop-k-init : goal.loop-k-init
 loop-k-init c = (omega arith, refl, rules-filled _)
 
-pub rule_in-requires : goal.rule_in-requires
-rule_in-requires c = c.loop-k-test.true
-
-pub offset_bounds-out-k : goal.offset_bounds-out-k
-offset_bounds-out-k c = omega arith
-
-pub bounds-out-k : goal.bounds-out-k
-bounds-out-k c = omega (arith, c.loop-k.invariant.1)
-
-pub overflow_add-k : goal.overflow_add-k
-overflow_add-k c = omega arith
-
-pub loop-k-smaller : goal.loop-k-smaller
-loop-k-smaller c = omega arith
-
 pub loop-k-preserved : goal.loop-k-preserved
 loop-k-preserved c = (
   omega arith,

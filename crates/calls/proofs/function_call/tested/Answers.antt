@@ -19,9 +19,6 @@ returns-then-marks-types c =
     let start = c.args in
     more-types _ start.types.now start.marks.now c.if-function-ge-FUNCTION_COUNT.false c.if-marks-types.true
 
-pub operands_tested-requires : goal.operands_tested-requires
-operands_tested-requires c = omega arith
-
 pub returns : goal.returns
 returns c =
     let start = c.args in

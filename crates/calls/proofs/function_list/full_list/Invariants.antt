@@ -2,7 +2,7 @@
 -- array. Assumes nothing.
 use mathlib.Core.Path.{◌≡◌}
 use mathlib.Core.List.{map}
-use Prim.Native.Nat.{◌-◌, ◌≤◌}
+use Prim.Native.Nat.{◌≤◌}
 use lib.ListN.{length, drop}
 use lib.Seq.{sets}
 use Rattle.scalars.specs.Mask.{padded}
@@ -12,6 +12,3 @@ use Rattle.calls.proofs.function_list.full_list.Given as goal
 
 abbrev pub invariant-loop-k : goal.invariant-loop-k
 invariant-loop-k l = (l.k ≤ l.n) × (length l.rules ≡ 63) × (sets l.rules l.k (drop l.k (map rule_of (listed_rules l.listed))) ≡ padded 63 blank_rule (map rule_of (listed_rules l.listed)))
-
-abbrev pub decreases-loop-k : goal.decreases-loop-k
-decreases-loop-k l = l.n - l.k

@@ -5,26 +5,6 @@ use Rattle.functions.specs.Sequences.{concrete_int_scalars}
 use Rattle.functions.proofs.Runs.{last-at}
 use Rattle.functions.proofs.utils.concrete_int_scalars.Goals as goal
 
-pub returns-in-0-clause-listed : goal.returns-in-0-clause-listed
-unfolding concrete_int_scalars
-returns-in-0-clause-listed c = rw c.in-0.is
-
-pub returns-in-1-clause-listed : goal.returns-in-1-clause-listed
-unfolding concrete_int_scalars
-returns-in-1-clause-listed c = rw c.in-1.is
-
-pub returns-in-2-clause-listed : goal.returns-in-2-clause-listed
-unfolding concrete_int_scalars
-returns-in-2-clause-listed c = rw c.in-2.is
-
-pub returns-in-3-clause-listed : goal.returns-in-3-clause-listed
-unfolding concrete_int_scalars
-returns-in-3-clause-listed c = rw c.in-3.is
-
-pub returns-in-4-clause-listed : goal.returns-in-4-clause-listed
-unfolding concrete_int_scalars
-returns-in-4-clause-listed c = rw c.in-4.is
-
 pub returns-in_default-clause-listed : goal.returns-in_default-clause-listed
 unfolding concrete_int_scalars
 returns-in_default-clause-listed c = last-at 7 concrete_int_scalars 5 {i = c.args.i} refl (omega arith)

@@ -5,18 +5,6 @@ use Rattle.functions.specs.Sequences.{float_scalars}
 use Rattle.functions.proofs.Runs.{last-at}
 use Rattle.functions.proofs.utils.float_scalars.Goals as goal
 
-pub returns-in-0-clause-listed : goal.returns-in-0-clause-listed
-unfolding float_scalars
-returns-in-0-clause-listed c = rw c.in-0.is
-
-pub returns-in-1-clause-listed : goal.returns-in-1-clause-listed
-unfolding float_scalars
-returns-in-1-clause-listed c = rw c.in-1.is
-
-pub returns-in-2-clause-listed : goal.returns-in-2-clause-listed
-unfolding float_scalars
-returns-in-2-clause-listed c = rw c.in-2.is
-
 pub returns-in_default-clause-listed : goal.returns-in_default-clause-listed
 unfolding float_scalars
 returns-in_default-clause-listed c = last-at 10 float_scalars 3 {i = c.args.i} refl (omega arith)

@@ -5,18 +5,6 @@ use Rattle.functions.specs.Sequences.{vector, scalar_or_vecn}
 use Rattle.functions.proofs.Runs.{last-at}
 use Rattle.functions.proofs.utils.scalar_or_vecn.Goals as goal
 
-pub returns-in-0 : goal.returns-in-0
-unfolding scalar_or_vecn
-returns-in-0 c = rw c.in-0.is
-
-pub returns-in-1 : goal.returns-in-1
-unfolding scalar_or_vecn vector
-returns-in-1 c = rw c.in-1.is c.code.ensures
-
-pub returns-in-2 : goal.returns-in-2
-unfolding scalar_or_vecn vector
-returns-in-2 c = rw c.in-2.is c.code-in-2.ensures
-
 pub returns-in_default : goal.returns-in_default
 unfolding scalar_or_vecn vector
 returns-in_default c = let s = c.args.scalar.0 in

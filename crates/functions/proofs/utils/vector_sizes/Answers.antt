@@ -5,14 +5,6 @@ use Rattle.functions.specs.Sequences.{vector_sizes}
 use Rattle.functions.proofs.Runs.{last-at}
 use Rattle.functions.proofs.utils.vector_sizes.Goals as goal
 
-pub returns-in-0-clause-listed : goal.returns-in-0-clause-listed
+pub returns-in_default : goal.returns-in_default
 unfolding vector_sizes
-returns-in-0-clause-listed c = rw c.in-0.is
-
-pub returns-in-1-clause-listed : goal.returns-in-1-clause-listed
-unfolding vector_sizes
-returns-in-1-clause-listed c = rw c.in-1.is
-
-pub returns-in_default-clause-listed : goal.returns-in_default-clause-listed
-unfolding vector_sizes
-returns-in_default-clause-listed c = last-at 4 vector_sizes 2 {i = c.args.i} refl (omega arith)
+returns-in_default c = last-at 4 vector_sizes 2 {i = c.args.i} refl (omega arith)

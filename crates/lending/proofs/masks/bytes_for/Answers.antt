@@ -3,10 +3,6 @@ use native.Mathlib.Omega.{arith}
 use Rattle.lending.specs.Masks.{bytes_for}
 use Rattle.lending.proofs.masks.bytes_for.Goals as goal
 
-pub returns-then-rules-eq0 : goal.returns-then-rules-eq0
-unfolding bytes_for
-returns-then-rules-eq0 c = omega arith
-
 pub returns : goal.returns
 unfolding bytes_for
-returns c = omega arith
+returns c = omega (arith, c.div_ceil.ensures)

@@ -1,5 +1,4 @@
 -- `lend_mask` meets its contract: each byte written is the next of the mask's, and lent bytes that are too few keep theirs. Assumes nothing.
-use native.Mathlib.Omega.{arith}
 use lib.ListN.{length-set}
 use Rattle.scalars.proofs.Fills.{fill_step, fill_end}
 use Rattle.lending.proofs.ByteMasks.{write_next, write_end, too_short, in_front}
@@ -12,14 +11,13 @@ returns-then-out-needed c =
 
 pub loop-i-preserved : goal.loop-i-preserved
 loop-i-preserved c = (
-  omega arith,
-  simp length-set c.loop-i.invariant.1,
-  fill_step _ _ (write_next _ _ _ c.loop-i-test.true) c.loop-i.invariant.2,
+  simp length-set c.loop-i.invariant.0,
+  fill_step _ _ (write_next _ _ _ c.loop-i-test.true) c.loop-i.invariant.1,
 )
 
 pub returns : goal.returns
 returns c =
     let k =
     in_front _ _ c.bytes_for-needed.ensures _ _ c.if-out-needed.false
-    (fill_end _ _ (write_end _ _ _ c.loop-i-test.false) c.loop-i.invariant.2) in
+    (fill_end _ _ (write_end _ _ _ c.loop-i-test.false) c.loop-i.invariant.1) in
     record { room = k.0; lent = k.1 }

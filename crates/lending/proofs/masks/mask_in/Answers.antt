@@ -1,5 +1,4 @@
 -- `mask_in` meets its contract: its tests are those that `mask_read` makes. Assumes nothing.
-use native.Mathlib.Omega.{arith}
 use Rattle.lending.proofs.ByteMasks.{read_short, read-stray, read-mask}
 use Rattle.lending.proofs.masks.mask_in.Goals as goal
 
@@ -10,14 +9,7 @@ pub returns-then-stray : goal.returns-then-stray
 returns-then-stray c =
     read-stray _ _ c.bytes_for-needed.ensures c.if-bytes-needed.false c.stray.ensures c.if-stray.true
 
-pub returns-then-needed-gt-WORD_BYTES : goal.returns-then-needed-gt-WORD_BYTES
-returns-then-needed-gt-WORD_BYTES c =
-    let needed = c.bytes_for-needed in
-    read-mask _ _ needed.ensures c.if-bytes-needed.false c.stray.ensures c.if-stray.false
-    8 (omega arith) c.word_in.ensures
-
 pub returns : goal.returns
 returns c =
-    let needed = c.bytes_for-needed in
-    read-mask _ _ needed.ensures c.if-bytes-needed.false c.stray.ensures c.if-stray.false
-    needed.result (omega arith) c.word_in-2.ensures
+    read-mask _ _ c.bytes_for-needed.ensures c.if-bytes-needed.false c.stray.ensures c.if-stray.false
+    c.min.result c.min.ensures c.word_in.ensures

@@ -3,7 +3,7 @@ use native.Mathlib.Omega.{arith}
 use Prim.Native.Nat.{◌-◌, ◌*◌, ◌/◌}
 use Rattle.scalars.proofs.Masks.{bit_is}
 use Rattle.lending.specs.Masks.{bytes_for}
-use Rattle.lending.proofs.ByteMasks.{Bytes, no_stray, stray-last}
+use Rattle.lending.proofs.ByteMasks.{no_stray, stray-last}
 use Rattle.lending.proofs.masks.stray.Goals as goal
 
 pub returns-then-rules-eq0 : goal.returns-then-rules-eq0
@@ -15,6 +15,5 @@ bounds-bytes-last c = omega arith
 
 pub returns : goal.returns
 returns c =
-    let bytes : Bytes c.args.bytes.now = λ i h. omega (arith, c.type_inv.bytes i) in
-    rw (c.wide.ensures, bit_is 16 (c.args.rules - (c.args.rules - 1) / 8 * 8) (omega arith))
-    (stray-last c.args.bytes.now bytes c.args.rules (omega arith) c.requires)
+    rw (c.from.ensures, bit_is 16 (c.args.rules - (c.args.rules - 1) / 8 * 8) (omega arith))
+    (stray-last c.args.bytes.now c.type_inv.bytes c.args.rules (omega arith) c.requires)

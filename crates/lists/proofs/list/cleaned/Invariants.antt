@@ -2,8 +2,7 @@
 -- array. Assumes nothing.
 use mathlib.Core.Path.{◌≡◌}
 use mathlib.Core.List.{List, map}
-use Prim.Native.Nat.{◌-◌, ◌≤◌}
-use lib.ListN.{length, take, drop}
+use lib.ListN.{length, drop}
 use lib.Seq.{sets}
 use Rattle.lists.specs.List.{most_rules}
 use Rattle.scalars.specs.Mask.{padded}
@@ -15,7 +14,7 @@ abbrev pub records : List Rule → List Rule
 records rs = map rule_of (map signature_of rs)
 
 abbrev pub invariant-loop-i : goal.invariant-loop-i
-invariant-loop-i l = (l.i ≤ l.n) × (length l.out ≡ most_rules) × (sets l.out l.i (records (drop l.i (take l.n l.rules))) ≡ padded most_rules blank_rule (records (take l.n l.rules)))
-
-abbrev pub decreases-loop-i : goal.decreases-loop-i
-decreases-loop-i l = l.n - l.i
+invariant-loop-i l = record {
+  long : length l.out ≡ most_rules;
+  filled : sets l.out l.i (records (drop l.i l.rules)) ≡ padded most_rules blank_rule (records l.rules);
+}

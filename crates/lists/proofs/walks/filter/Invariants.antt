@@ -9,7 +9,7 @@ use Rattle.lists.specs.List.{signatures}
 use Rattle.lists.proofs.walks.filter.Given as goal
 
 abbrev pub invariant-loop-bit : goal.invariant-loop-bit
-invariant-loop-bit l = (l.walk.0 < 2 ^ length (signatures l.list)) × (l.left + sift (passes l.keep) (signatures l.list) l.walk.0 ≡ sift (passes l.keep) (signatures l.list) l.initial.walk.0)
-
-abbrev pub decreases-loop-bit : goal.decreases-loop-bit
-decreases-loop-bit l = l.walk.0
+invariant-loop-bit l = record {
+  within : l.bit-iterator.0 < 2 ^ length (signatures l.list);
+  kept : l.left + sift (passes l.keep) (signatures l.list) l.bit-iterator.0 ≡ sift (passes l.keep) (signatures l.list) l.initial.bit-iterator.0;
+}

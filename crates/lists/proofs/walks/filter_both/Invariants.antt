@@ -10,9 +10,8 @@ use Rattle.lists.specs.List.{signatures}
 use Rattle.lists.proofs.walks.filter_both.Given as goal
 
 abbrev pub invariant-loop-bit : goal.invariant-loop-bit
-invariant-loop-bit l = (l.walk.0 < 2 ^ length (signatures l.list))
-    × (l.shaped + sift (fits Shape l.i l.t) (signatures l.list) l.walk.0 ≡ sift (fits Shape l.i l.t) (signatures l.list) l.initial.walk.0)
-    × (l.left + sift (takes l.i l.t) (signatures l.list) l.walk.0 ≡ sift (takes l.i l.t) (signatures l.list) l.initial.walk.0)
-
-abbrev pub decreases-loop-bit : goal.decreases-loop-bit
-decreases-loop-bit l = l.walk.0
+invariant-loop-bit l = record {
+  within : l.bit-iterator.0 < 2 ^ length (signatures l.list);
+  shaped : l.shaped + sift (fits Shape l.i l.t) (signatures l.list) l.bit-iterator.0 ≡ sift (fits Shape l.i l.t) (signatures l.list) l.initial.bit-iterator.0;
+  left : l.left + sift (takes l.i l.t) (signatures l.list) l.bit-iterator.0 ≡ sift (takes l.i l.t) (signatures l.list) l.initial.bit-iterator.0;
+}

@@ -9,7 +9,7 @@ use Rattle.lists.specs.List.{signatures, listing}
 use Rattle.lists.proofs.walks.longest.Given as goal
 
 abbrev pub invariant-loop-bit : goal.invariant-loop-bit
-invariant-loop-bit l = (l.walk.0 < 2 ^ length (signatures l.list)) × (max l.best (longest (select (signatures l.list) l.walk.0)) ≡ longest (listing l.list))
-
-abbrev pub decreases-loop-bit : goal.decreases-loop-bit
-decreases-loop-bit l = l.walk.0
+invariant-loop-bit l = record {
+  within : l.bit-iterator.0 < 2 ^ length (signatures l.list);
+  best : max l.best (longest (select (signatures l.list) l.bit-iterator.0)) ≡ longest (listing l.list);
+}

@@ -1,31 +1,41 @@
 -- `run_worksheet` runs every line of the bytes: each way through the function is a law of proofs/Outcomes.antt.
 -- Assumes nothing.
-use mathlib.Core.Path.{◌∙◌}
+use mathlib.Core.Path.{◌≡◌, sym, ◌∙◌}
 use native.Mathlib.Omega.{arith}
-use borrow.Author.Tests.{not-true, not-false}
+use borrow.Author.Tests.{eqb-true, eqb-false}
+use Rattle.scalars.proofs.HandedOn.{handed_on}
 use Rattle.functions.specs.Functions.{listing_of}
 use Rattle.machine.specs.private.MachineStack.{operands_on}
-use Rattle.machine.proofs.Outcomes.{run-ended, run-partial, run-stopped, run-next}
+use Rattle.machine.proofs.Outcomes.{lines-counted, run-ended, run-partial, run-stopped, run-next}
 use Rattle.machine.proofs.machine.run_worksheet.Goals as goal
 
-pub returns-then-sheet-at-lt-LINE : goal.returns-then-sheet-at-lt-LINE
-returns-then-sheet-at-lt-LINE c = run-partial listing_of _ _ _ _ c.loop-at.invariant.3 c.loop-at-test.true c.if-sheet-at-lt-LINE.true
+pub returns-in_err-ok_or : goal.returns-in_err-ok_or
+returns-in_err-ok_or c =
+    let loop = c.loop-left in
+    let told = c.in_err-ok_or.ensures in
+    let number : c.in_err-ok_or.field-0.0.0 ≡ loop.line =
+    let e = rw told.ok_part at told.value in cc in
+    rw (handed_on c.from_residual.ensures.1, number)
+    (run-stopped listing_of c.args.sheet.now loop.left.now loop.line (operands_on loop.stack) loop.invariant.same_run
+    c.in-len4-up.len_at_least (rw told.ok_part at c.line.ensures))
 
-pub returns-then-not-next : goal.returns-then-not-next
-returns-then-not-next c =
-    let loop = c.loop-at in
-    let line = c.do_line-next in
-    run-stopped listing_of c.args.sheet.now loop.at loop.line (operands_on loop.stack) loop.invariant.3 (omega arith) line.result
-    line.ensures (not-true _ c.if-not-next.true)
+pub loop-left-preserved : goal.loop-left-preserved
+loop-left-preserved c =
+    let loop = c.loop-left in
+    record {
+      counted = lines-counted loop.left.now loop.line _ c.in-len4-up.len_at_least loop.invariant.counted;
+      same_run =
+          run-next listing_of c.args.sheet.now loop.left.now loop.line (operands_on loop.stack) loop.invariant.same_run
+          c.in-len4-up.len_at_least _ (rw c.in_ok-ok_or.ensures.ok_part at c.line.ensures);
+    }
 
-pub loop-at-preserved : goal.loop-at-preserved
-loop-at-preserved c =
-    let loop = c.loop-at in
-    let line = c.do_line-next in
-    let next =
-    run-next listing_of c.args.sheet.now loop.at loop.line (operands_on loop.stack) loop.invariant.3 (omega arith) line.result
-    line.ensures (not-false _ c.if-not-next.false) in
-    (omega arith, omega arith, next.0, next.1)
+pub returns-then-not-is_empty : goal.returns-then-not-is_empty
+returns-then-not-is_empty c =
+    let some = eqb-false _ _ (sym c.if-not-is_empty.ensures) in
+    run-partial listing_of c.args.sheet.now c.loop-left.left.now _ _ c.loop-left.invariant.same_run (omega arith) c.in_default.len_below
 
 pub returns : goal.returns
-returns c = c.ended.ensures ∙ run-ended listing_of _ _ _ _ c.loop-at.invariant.3 c.loop-at-test.false
+returns c =
+    c.ended.ensures
+    ∙ run-ended listing_of c.args.sheet.now c.loop-left.left.now _ _ c.loop-left.invariant.same_run
+    (eqb-true _ _ (sym c.if-not-is_empty.ensures))

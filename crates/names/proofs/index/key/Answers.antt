@@ -1,14 +1,14 @@
--- `key` meets its contract. The loop's invariant: from the key so far the bytes left lead to the run's key. The measure is what is left.
+-- `key` meets its contract. The loop's invariant: from the number made so far, the bytes that are left make the whole number.
 -- Assumes nothing.
 use native.Mathlib.Omega.{arith}
 use Rattle.names.proofs.Lookups.{key_start, key_next, key_end}
 use Rattle.names.proofs.index.key.Goals as goal
 
-pub loop-i-init : goal.loop-i-init
-loop-i-init c = (omega arith, omega arith, key_start _)
+pub loop-b-init : goal.loop-b-init
+loop-b-init c = (omega arith, key_start _)
 
-pub loop-i-preserved : goal.loop-i-preserved
-loop-i-preserved c = (omega arith, omega arith, key_next _ _ _ c.loop-i.invariant.2 (omega arith))
+pub loop-b-preserved : goal.loop-b-preserved
+loop-b-preserved c = (omega arith, rw c.from.ensures (key_next _ _ c.loop-b.b-index c.loop-b.invariant.1 (omega arith)))
 
 pub returns : goal.returns
-returns c = key_end _ _ c.loop-i.i c.loop-i.invariant.2 (omega arith)
+returns c = key_end _ _ c.loop-b.b-index c.loop-b.invariant.1 (omega arith)

@@ -8,8 +8,5 @@ use Rattle.scalars.specs.Mask.{bits, padded}
 use Rattle.scalars.specs.Paper.{unused}
 use Rattle.scalars.proofs.one_bits_iter.members_of.Given as goal
 
-abbrev pub invariant-loop-numbers : goal.invariant-loop-numbers
-invariant-loop-numbers l = (l.walk.0 < 2 ^ 16) × (l.count + length (bits 16 l.walk.0) ≡ length (bits 16 l.mask)) × (length l.numbers ≡ 16) × (sets l.numbers l.count (bits 16 l.walk.0) ≡ padded 16 unused (bits 16 l.mask))
-
-abbrev pub decreases-loop-numbers : goal.decreases-loop-numbers
-decreases-loop-numbers l = l.walk.0
+abbrev pub invariant-loop-bit : goal.invariant-loop-bit
+invariant-loop-bit l = (l.bit-iterator.0 < 2 ^ 16) × (l.members.count + length (bits 16 l.bit-iterator.0) ≡ length (bits 16 l.mask)) × (length l.members.numbers ≡ 16) × (sets l.members.numbers l.members.count (bits 16 l.bit-iterator.0) ≡ padded 16 unused (bits 16 l.mask))

@@ -7,6 +7,6 @@ use Rattle.text.proofs.reader.put_leaf.Goals as goal
 pub returns : goal.returns
 returns c =
     record {
-      step = refl;
+      past = refl;
       written = c.put-2.ensures ∙ ap₂ (λ l i. set l i c.args.code) c.put.ensures (add-one c.args.made);
     }

@@ -1,17 +1,19 @@
--- `skip_spaces` passes the spaces of the definition: those passed and those left are all. Assumes nothing.
-use mathlib.Core.Path.{refl, sym, ◌∙◌}
-use native.Mathlib.Omega.{arith}
-use Rattle.text.proofs.Tokens.{gap-end, gap_step, gap-stop}
+-- `skip_spaces` passes the spaces of the definition: as many as stand in front of what is left. Assumes nothing.
+use mathlib.Core.Path.{ap, ◌∙◌}
+use Prim.Native.Nat.{◌+◌}
+use lib.Dec.{eqb}
+use Rattle.std.proofs.Common.{drop, rules, tests}
+use Rattle.std.proofs.lemmas.Iterator.{YieldsList-from_slice}
+use Rattle.std.proofs.lemmas.Iterator.Consumers.{count_from_yields_List}
+use Rattle.std.proofs.lemmas.Iterator.Search.{YieldsList-from_take_while}
+use Rattle.text.specs.Tokens.{space_byte}
+use Rattle.text.proofs.Tokens.{gap-counted}
 use Rattle.text.proofs.token.skip_spaces.Goals as goal
 
-pub returns-then-text-i-ne-SPACE : goal.returns-then-text-i-ne-SPACE
-returns-then-text-i-ne-SPACE c = sym (gap-stop _ _ (omega arith) c.if-text-i-ne-SPACE.true) ∙ c.loop-i.invariant
-
-pub loop-i-preserved : goal.loop-i-preserved
-loop-i-preserved c = sym (gap_step _ _ (omega arith) c.if-text-i-ne-SPACE.false) ∙ c.loop-i.invariant
-
 pub returns : goal.returns
-returns c = sym (gap-end _ _ (omega arith)) ∙ c.loop-i.invariant
-
-pub loop-i-init : goal.loop-i-init
-loop-i-init c = refl
+returns c =
+    ap (λ n. c.args.at + n)
+    (count_from_yields_List c.take_while.result _ c.count.ensures.ran
+    (YieldsList-from_take_while _ (λ b. eqb b space_byte) (YieldsList-from_slice (drop c.args.at c.args.text.now) (cc))
+    c.take_while.ensures.closure c.take_while.ensures.done (λ x b q k. search (rules, tests)))
+    ∙ gap-counted _)

@@ -1,35 +1,7 @@
--- `put_all` meets its contract: when no byte is left, the whole is stored. Assumes nothing.
-use mathlib.Core.Path.{◌≡◌, refl, ap, ◌∙◌}
-use Prim.Native.Nat.{◌+◌}
-use native.Mathlib.Nat.{add-zero}
+-- `put_all` meets its contract: the bytes stand behind what is in front of the offset, and what is behind them stays. Assumes nothing.
 use native.Mathlib.Omega.{arith}
-use borrow.Author.Rules.{rules}
-use lib.ListN.{length, get_or, drop, set, drop_of_length-le}
-use lib.Seq.{sets}
-use Rattle.scalars.proofs.Fills.{fill_step, fill_end}
-use Rattle.expressions.proofs.Bytes.{head_at}
+use Rattle.text.proofs.Stores.{copied}
 use Rattle.text.proofs.writer.put_all.Goals as goal
 
-pub loop-i-init : goal.loop-i-init
-loop-i-init c =
-    let start = c.args in
-    (omega arith, ap (λ j. sets start.strip.now j start.bytes.now) (add-zero start.at))
-
-pub loop-i-preserved : goal.loop-i-preserved
-loop-i-preserved c =
-    let here = c.loop-i in
-    let start = c.args in
-    let bytes = start.bytes.now in
-    let next : start.at + (here.i + 1) ≡ start.at + here.i + 1 = omega arith in (
-      search rules,
-      ap (λ j. sets (set here.strip (start.at + here.i) (get_or bytes here.i 0)) j (drop (here.i + 1) bytes)) next
-          ∙ fill_step here.strip (start.at + here.i) (head_at bytes here.i (here.i + 1) (omega arith) refl) here.invariant.1,
-    )
-
-pub returns : goal.returns
-returns c =
-    let here = c.loop-i in
-    let start = c.args in
-    let e : here.i ≡ length start.bytes.now = omega arith in
-    let none = drop_of_length-le start.bytes.now c.loop-i-test.false in
-    record { offset = ap (λ j. start.at + j) e; written = fill_end here.strip (start.at + here.i) none here.invariant.1 }
+pub returns-clause-written : goal.returns-clause-written
+returns-clause-written c = copied _ _ _ _ _ (omega arith) c.copy_from_slice.ensures.after (omega arith)

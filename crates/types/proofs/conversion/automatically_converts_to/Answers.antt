@@ -1,23 +1,18 @@
--- `automatically_converts_to` meets its contract.
+-- `automatically_converts_to` meets its contract: an unknown scalar is refused, and of two known ones a set tells.
 -- Assumes nothing.
-use mathlib.Core.Path.{sym, ◌∙◌}
-use borrow.Author.Tests.{lt-ltb, le-ltb}
-use Rattle.types.proofs.Combinations.{converts-told}
+use mathlib.Core.Path.{sym}
+use Rattle.std.proofs.Common.{rules}
+use borrow.Author.Tests.{ltb-true}
 use Rattle.types.specs.Conversion.{converts_to}
+use Rattle.types.proofs.TypeCodes.{unknown_refused, both_true}
+use Rattle.types.proofs.Combinations.{converts-told}
 use Rattle.types.proofs.conversion.automatically_converts_to.Goals as goal
 
-pub returns-then-from-ge-COUNT : goal.returns-then-from-ge-COUNT
+pub returns-in_err-both_known : goal.returns-in_err-both_known
 unfolding converts_to
-returns-then-from-ge-COUNT c = simp (le-ltb _ _ c.if-from-ge-COUNT.true)
-
-pub returns-then-to-ge-COUNT : goal.returns-then-to-ge-COUNT
-unfolding converts_to
-returns-then-to-ge-COUNT c = simp (lt-ltb _ _ c.if-from-ge-COUNT.false, le-ltb _ _ c.if-to-ge-COUNT.true)
-
-pub returns-then-contains : goal.returns-then-contains
-returns-then-contains c =
-    sym (converts-told _ _ _ c.if-from-ge-COUNT.false c.if-to-ge-COUNT.false c.convertible_from.ensures (sym c.contains.ensures ∙ c.if-contains.true))
+returns-in_err-both_known c = search (rules, unknown_refused)
 
 pub returns : goal.returns
 returns c =
-    sym (converts-told _ _ _ c.if-from-ge-COUNT.false c.if-to-ge-COUNT.false c.convertible_from.ensures (sym c.contains.ensures ∙ c.if-contains.false))
+    let (from, to) = both_true _ _ c.in_ok-both_known.ensures in
+    sym (converts-told _ _ _ (ltb-true _ _ from) (ltb-true _ _ to) c.convertible_from.ensures (sym c.contains.ensures))

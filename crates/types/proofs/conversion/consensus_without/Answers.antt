@@ -1,36 +1,28 @@
--- `consensus_without` meets its contract: a list that is not empty has a first component, and the rest behind it.
--- Assumes nothing.
-use mathlib.Core.Path.{sym, ap, ◌∙◌}
+-- `consensus_without` meets its contract: an unknown component is refused, then none at all, then a first one with no scalar; and the rest is
+-- the agreement from the first on. Assumes nothing.
+use mathlib.Core.Path.{◌∙◌}
 use native.Mathlib.Omega.{arith}
-use borrow.Author.Tests.{lt-ltb, le-ltb}
-use Rattle.types.specs.TypePaper.{leaf_paper}
+use Rattle.std.proofs.Common.{rules}
 use Rattle.types.specs.Conversion.{agreed, consensus_of}
-use Rattle.types.proofs.TypeCodes.{leaf-some, leaf-none}
-use Rattle.types.proofs.Agreeing.{first-none, first-without, first-agrees}
+use Rattle.types.proofs.Agreeing.{first-none, first-without, first-agrees, with_known}
+use Rattle.types.proofs.Codes.{unknown_type_refused}
 use Rattle.types.proofs.conversion.consensus_without.Goals as goal
 
-pub returns-then-known-components : goal.returns-then-known-components
+pub returns-in_err-all_known : goal.returns-in_err-all_known
 unfolding consensus_of agreed
-returns-then-known-components c = simp (← c.first_unknown-known.ensures, lt-ltb _ _ c.if-known-components.true)
-
-pub returns-then-components-eq0 : goal.returns-then-components-eq0
-unfolding consensus_of agreed
-returns-then-components-eq0 c =
-    simp (← c.first_unknown-known.ensures, le-ltb _ _ c.if-known-components.false) (first-none c.args.components.now c.if-components-eq0.true)
+returns-in_err-all_known c = search (rules, unknown_type_refused)
 
 pub returns-in_default : goal.returns-in_default
 unfolding consensus_of agreed
-returns-in_default c =
-    simp (← c.first_unknown-known.ensures, le-ltb _ _ c.if-known-components.false)
-    (first-without c.args.components.now c.if-components-eq0.false (leaf-none _ c.leaf_scalar.result c.leaf_scalar.ensures c.in_default.not-Scalar))
+returns-in_default c = first-none c.args.components.now (omega arith) ∙ with_known _ _ _ c.in_ok-all_known.ensures
 
-pub agree_from-requires : goal.agree_from-requires
-agree_from-requires c =
-    let f = leaf-some _ (sym c.leaf_scalar.ensures ∙ ap leaf_paper c.in-Scalar.is) in
-    record { 0 = omega (arith, f.1); 1 = omega arith }
+pub returns-in_default-scalar_of : goal.returns-in_default-scalar_of
+unfolding consensus_of agreed
+returns-in_default-scalar_of c =
+    first-without c.args.components.now (λ e. omega arith) c.in_default-scalar_of.ensures ∙ with_known _ _ _ c.in_ok-all_known.ensures
 
 pub returns : goal.returns
 unfolding consensus_of agreed
 returns c =
-    simp (← c.first_unknown-known.ensures, le-ltb _ _ c.if-known-components.false)
-    (c.agree_from.ensures ∙ first-agrees c.args.components.now c.if-components-eq0.false (sym c.leaf_scalar.ensures ∙ ap leaf_paper c.in-Scalar.is))
+    c.agree_from.ensures ∙ first-agrees c.args.components.now (λ e. omega arith) c.in-Some.ensures.0 c.in-Some.ensures.1
+    ∙ with_known _ _ _ c.in_ok-all_known.ensures

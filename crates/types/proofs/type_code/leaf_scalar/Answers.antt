@@ -1,17 +1,14 @@
 -- `leaf_scalar` meets its contract.
 -- Assumes nothing.
-use borrow.Author.Tests.{lt-ltb, le-ltb, le-leb, lt-leb}
+use Rattle.std.proofs.Common.{arith, tests}
+use Rattle.std.proofs.lemmas.Grind.{common_steps}
 use Rattle.types.specs.TypeCode.{leaf_scalar}
 use Rattle.types.proofs.type_code.leaf_scalar.Goals as goal
 
-pub returns-then-code-lt-VALUES : goal.returns-then-code-lt-VALUES
+pub returns-then-code-gt-LAST_CODE : goal.returns-then-code-gt-LAST_CODE
 unfolding leaf_scalar
-returns-then-code-lt-VALUES c = simp (lt-ltb _ _ c.if-code-lt-VALUES.true)
-
-pub returns-then-code-le-LAST_CODE : goal.returns-then-code-le-LAST_CODE
-unfolding leaf_scalar
-returns-then-code-le-LAST_CODE c = simp (le-ltb _ _ c.if-code-lt-VALUES.false, le-leb _ _ c.if-code-le-LAST_CODE.true)
+returns-then-code-gt-LAST_CODE c = grind (arith, common_steps, tests)
 
 pub returns : goal.returns
 unfolding leaf_scalar
-returns c = simp (le-ltb _ _ c.if-code-lt-VALUES.false, lt-leb _ _ c.if-code-le-LAST_CODE.false)
+returns c = grind (arith, common_steps, tests)

@@ -1,17 +1,14 @@
--- `value_code` meets its contract.
+-- `value_code` meets its contract: an unknown constructor or scalar is refused.
 -- Assumes nothing.
-use borrow.Author.Tests.{lt-ltb, le-ltb}
+use Rattle.std.proofs.Common.{rules}
 use Rattle.types.specs.TypeCode.{value_code}
+use Rattle.types.proofs.TypeCodes.{unknown_refused, known_answers}
 use Rattle.types.proofs.type_code.value_code.Goals as goal
 
-pub returns-then-k-ge-COUNT : goal.returns-then-k-ge-COUNT
+pub returns-in_err-both_known : goal.returns-in_err-both_known
 unfolding value_code
-returns-then-k-ge-COUNT c = simp (le-ltb _ _ c.if-k-ge-COUNT.true)
-
-pub returns-then-s-ge-COUNT : goal.returns-then-s-ge-COUNT
-unfolding value_code
-returns-then-s-ge-COUNT c = simp (lt-ltb _ _ c.if-k-ge-COUNT.false, le-ltb _ _ c.if-s-ge-COUNT.true)
+returns-in_err-both_known c = search (rules, unknown_refused)
 
 pub returns : goal.returns
 unfolding value_code
-returns c = simp (lt-ltb _ _ c.if-k-ge-COUNT.false, lt-ltb _ _ c.if-s-ge-COUNT.false)
+returns c = known_answers _ _ _ _ c.in_ok-both_known.ensures

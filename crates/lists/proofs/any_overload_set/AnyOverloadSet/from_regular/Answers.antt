@@ -1,14 +1,14 @@
--- `AnyOverloadSet::from_regular` meets its contract: the set where its verdict accepts it, and the verdict's refusal otherwise.
+-- `AnyOverloadSet::from_regular` meets its contract: the set's verdict is its own.
 -- Assumes nothing.
-use mathlib.Core.Path.{sym, ap, ◌∙◌}
-use Rattle.scalars.specs.Paper.{verdict_paper}
+use mathlib.Core.Path.{sym}
+use Rattle.scalars.proofs.HandedOn.{handed_on}
 use Rattle.regular.specs.Regular.{checked_regular}
 use Rattle.lists.proofs.any_overload_set.AnyOverloadSet.from_regular.Goals as goal
 
-pub returns-in-Accepted : goal.returns-in-Accepted
+pub returns-in_err-verdict : goal.returns-in_err-verdict
 unfolding checked_regular
-returns-in-Accepted c = rw (sym c.verdict.ensures ∙ ap verdict_paper c.in-Accepted.is) c.regular_answer.ensures
+returns-in_err-verdict c = rw (handed_on c.from_residual.ensures.1, sym c.in_err-verdict.ensures)
 
-pub returns-in-Refused : goal.returns-in-Refused
+pub returns : goal.returns
 unfolding checked_regular
-returns-in-Refused c = rw (sym c.verdict.ensures ∙ ap verdict_paper c.in-Refused.is) c.regular_answer-in-Refused.ensures
+returns c = rw (sym c.in_ok-verdict.ensures)

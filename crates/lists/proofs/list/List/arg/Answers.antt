@@ -5,7 +5,7 @@ use Rattle.lists.proofs.list.List.arg.Goals as goal
 
 pub returns-then-t-gt-LAST_CODE : goal.returns-then-t-gt-LAST_CODE
 unfolding list_arg
-returns-then-t-gt-LAST_CODE c = simp (lt-leb _ _ c.if-t-gt-LAST_CODE.true) c.refused.ensures
+returns-then-t-gt-LAST_CODE c = simp (lt-leb _ _ c.if-t-gt-LAST_CODE.true)
 
 pub returns : goal.returns
 unfolding list_arg

@@ -1,26 +1,17 @@
 -- `List::max_arguments` meets its contract: testing leaves the listing, and `longest` counts it. Assumes nothing.
-use mathlib.Core.Path.{◌≡◌, ap, ◌∙◌}
-use lib.ListN.{length}
+use mathlib.Core.Path.{◌∙◌}
 use borrow.Author.Rules.{rules}
-use Rattle.scalars.specs.Paper.{unused}
-use Rattle.lists.specs.List.{most_rules, list_count}
+use Rattle.scalars.proofs.HandedOn.{handed_on}
+use Rattle.lists.specs.List.{list_count}
 use Rattle.rules.specs.Verdict.{count_of}
-use mathlib.Core.List.{[], ◌∷◌}
 use Rattle.scalars.proofs.Masks.{mapped-long}
-use Rattle.lists.proofs.Verdicts.{on-refused, on-accepted, tested-listing}
+use Rattle.lists.proofs.Verdicts.{on-refused, then_listing}
 use Rattle.lists.proofs.list.List.max_arguments.Goals as goal
 
--- the array of rules has 63 entries
-long : (c : goal.After-longest) → length c.args.self.rules ≡ most_rules
-long c = search (rules, mapped-long)
-
-pub returns-in-Refused : goal.returns-in-Refused
+pub returns-in_err-checked : goal.returns-in_err-checked
 unfolding list_count
-returns-in-Refused c = on-refused _ c.checked-tested.result c.checked-tested.ensures _ (unused ∷ []) c.in-Refused.is
+returns-in_err-checked c = rw (handed_on c.from_residual.ensures.1) (on-refused c.args.self _ c.in_err-checked.ensures _ _)
 
-pub returns-in-Accepted : goal.returns-in-Accepted
+pub returns : goal.returns
 unfolding list_count
-returns-in-Accepted c =
-    c.longest.ensures
-    ∙ ap count_of (tested-listing _ c.checked-tested.result c.checked-tested.ensures c.in-Accepted.is (long c))
-    ∙ on-accepted _ c.checked-tested.result c.checked-tested.ensures _ (unused ∷ []) c.in-Accepted.is
+returns c = c.longest.ensures ∙ then_listing c.args.self _ c.in_ok-checked.ensures (search (rules, mapped-long)) count_of _

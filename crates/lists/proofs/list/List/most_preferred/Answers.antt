@@ -1,30 +1,17 @@
 -- `List::most_preferred` meets its contract: testing leaves the members with their indices, and `first` finds the first of them.
 -- Assumes nothing.
-use mathlib.Core.Path.{◌≡◌, ap, ◌∙◌}
-use lib.ListN.{length}
+use mathlib.Core.Path.{◌∙◌}
 use borrow.Author.Rules.{rules}
-use Rattle.lists.specs.List.{most_rules, list_preferred, preferred_of}
-use Rattle.lists.specs.ChosenPaper.{no_choice}
+use Rattle.scalars.proofs.HandedOn.{handed_on}
+use Rattle.lists.specs.List.{list_preferred, preferred_of}
 use Rattle.scalars.proofs.Masks.{mapped-long}
-use Rattle.lists.proofs.Verdicts.{on-refused, on-accepted, tested-valid, tested-entries}
+use Rattle.lists.proofs.Verdicts.{on-refused, then_entries}
 use Rattle.lists.proofs.list.List.most_preferred.Goals as goal
 
--- the array of rules has 63 entries
-long : (c : goal.After-first) → length c.args.self.rules ≡ most_rules
-long c = search (rules, mapped-long)
-
-pub first-requires : goal.first-requires
-first-requires c =
-    let long : length c.args.self.rules ≡ most_rules = search (rules, mapped-long) in
-    tested-valid _ c.checked-tested.result c.checked-tested.ensures c.in-Accepted.is long
-
-pub returns-in-Refused : goal.returns-in-Refused
+pub returns-in_err-tested : goal.returns-in_err-tested
 unfolding list_preferred
-returns-in-Refused c = on-refused _ c.checked-tested.result c.checked-tested.ensures _ no_choice c.in-Refused.is
+returns-in_err-tested c = rw (handed_on c.from_residual.ensures.1) (on-refused c.args.self _ c.in_err-tested.ensures _ _)
 
-pub returns-in-Accepted : goal.returns-in-Accepted
+pub returns : goal.returns
 unfolding list_preferred
-returns-in-Accepted c =
-    c.first.ensures
-    ∙ ap preferred_of (tested-entries _ c.checked-tested.result c.checked-tested.ensures c.in-Accepted.is (long c))
-    ∙ on-accepted _ c.checked-tested.result c.checked-tested.ensures _ no_choice c.in-Accepted.is
+returns c = c.first.ensures ∙ then_entries c.args.self _ c.in_ok-tested.ensures (search (rules, mapped-long)) preferred_of _

@@ -1,13 +1,7 @@
 -- `Regular::listed` meets its contract. The loop's invariant: all rules so far have a conclusion, and they, followed by those that are
 -- left, are the whole listing. Assumes nothing.
-use Prim.Native.Nat.{◌-◌}
-use lib.ListN.{length}
-use Rattle.regular.specs.Regular.{codes_of}
 use Rattle.regular.proofs.Listings.{Listed}
 use Rattle.regular.proofs.regular.Regular.listed.Given as goal
 
 abbrev pub invariant-loop-k : goal.invariant-loop-k
 invariant-loop-k l = Listed l.self l.rules l.k
-
-abbrev pub decreases-loop-k : goal.decreases-loop-k
-decreases-loop-k l = length (codes_of l.self) - l.k

@@ -1,55 +1,50 @@
 -- `Regular::most_preferred` meets its contract: the one constructor's size over the lowest scalar.
 -- Assumes nothing.
-use mathlib.Core.Path.{◌≡◌, sym, ap, ◌∙◌}
-use mathlib.Core.Bool.{false}
-use mathlib.Core.List.{[]}
+use Rattle.std.proofs.Common.{◌≡◌, sym, ◌∙◌, arith}
+use Rattle.std.specs.Prelude.{Ok, Err}
 use Rattle.scalars.specs.Mask.{bits}
 use Rattle.scalars.specs.Domain.{scalar_count}
-use Rattle.scalars.specs.Paper.{accepted, verdict_paper, scalar_paper}
 use Rattle.types.specs.Domain.{constructor_count}
-use Rattle.types.specs.TypePaper.{size_paper}
-use Rattle.regular.specs.Regular.{regular_verdict, regular_preferred, preferred_among, empty_set?}
+use Rattle.rules.specs.RulePaper.{no_rule}
+use Rattle.regular.specs.Regular.{regular_preferred, preferred_among}
 use Rattle.regular.specs.declared.regular.Regular.{Regular}
 use Rattle.regular.specs.private.Tested.{Known}
-use Rattle.regular.proofs.Regulars.{accepted-known, preferred-none, preferred-one, preferred_several, scalar-found}
+use Rattle.regular.proofs.Regulars.{empty-told, known-accepted, preferred-none, preferred-one, preferred_several, scalar-found}
 use Rattle.regular.proofs.regular.Regular.most_preferred.Goals as goal
 
-among : (s : Regular) → regular_verdict s ≡ accepted [] → regular_preferred s ≡ preferred_among s (bits constructor_count s.constructors.0) (bits scalar_count s.scalars.0)
+among : (r : Regular) → Known r → regular_preferred r ≡ preferred_among r (bits constructor_count r.constructors.0) (bits scalar_count r.scalars.0)
 unfolding regular_preferred
-among s e = rw e
+among r known = rw (known-accepted r known)
 
-some : (c : goal.After-rule) → empty_set? c.args.self ≡ false
-some c = sym c.holds_none.ensures ∙ c.if-holds_none.false
-
-pub returns-in-Refused : goal.returns-in-Refused
+pub returns-in_err-is_empty : goal.returns-in_err-is_empty
 unfolding regular_preferred
-returns-in-Refused c = rw (sym c.verdict.ensures ∙ ap verdict_paper c.in-Refused.is)
+returns-in_err-is_empty c =
+    let r = c.args.self in
+    let told = empty-told r (Err c.in_err-is_empty.field-0.0) c.in_err-is_empty.ensures (preferred_among r (bits constructor_count r.constructors.0) (bits scalar_count r.scalars.0)) no_rule in
+    grind arith
 
-pub returns-then-holds_none : goal.returns-then-holds_none
-returns-then-holds_none c = preferred-none _ (sym c.holds_none.ensures ∙ c.if-holds_none.true) ∙ sym (among _ (sym c.verdict.ensures ∙ ap verdict_paper c.in_default.is))
+pub returns-then-branch : goal.returns-then-branch
+returns-then-branch c =
+    let told = empty-told c.args.self (Ok c.in_ok-is_empty.field-0) c.in_ok-is_empty.ensures in
+    preferred-none _ (told.1 ∙ c.if-branch.true) ∙ sym (among _ told.0)
+
+pub returns-in_err-size : goal.returns-in_err-size
+returns-in_err-size c =
+    let told = empty-told c.args.self (Ok c.in_ok-is_empty.field-0) c.in_ok-is_empty.ensures in
+    let several = preferred_several _ told.0 (told.1 ∙ c.if-branch.false) c.in_err-size.field-0.0 c.in_err-size.ensures ∙ sym (among _ told.0) in
+    grind arith
+
+pub returns-in_err-scalar : goal.returns-in_err-scalar
+returns-in_err-scalar c =
+    let told = empty-told c.args.self (Ok c.in_ok-is_empty.field-0) c.in_ok-is_empty.ensures in
+    scalar-found _ told.0 (told.1 ∙ c.if-branch.false) c.in_err-scalar.field-0.0 c.in_err-scalar.ensures
 
 pub rule-requires : goal.rule-requires
-rule-requires c =
-    let known : Known c.args.self = accepted-known c.args.self (sym c.verdict.ensures ∙ ap verdict_paper c.in_default.is) in
-    known.arity
+rule-requires c = (empty-told c.args.self (Ok c.in_ok-is_empty.field-0) c.in_ok-is_empty.ensures).0.arity
 
-pub returns-in-Refused-size : goal.returns-in-Refused-size
-returns-in-Refused-size c =
-    let known : Known c.args.self = accepted-known c.args.self (sym c.verdict.ensures ∙ ap verdict_paper c.in_default.is) in
-    let some : empty_set? c.args.self ≡ false = sym c.holds_none.ensures ∙ c.if-holds_none.false in
-    preferred_several _ known some c.in-Refused-size.why (sym (ap size_paper c.in-Refused-size.is) ∙ c.size.ensures)
-    ∙ sym (among _ (sym c.verdict.ensures ∙ ap verdict_paper c.in_default.is))
-
-pub returns-in-Refused-most_general_scalar : goal.returns-in-Refused-most_general_scalar
-returns-in-Refused-most_general_scalar c =
-    let known : Known c.args.self = accepted-known c.args.self (sym c.verdict.ensures ∙ ap verdict_paper c.in_default.is) in
-    let some : empty_set? c.args.self ≡ false = sym c.holds_none.ensures ∙ c.if-holds_none.false in
-    scalar-found _ known some c.in-Refused-most_general_scalar.why (sym (ap scalar_paper c.in-Refused-most_general_scalar.is) ∙ c.most_general_scalar.ensures)
-
-pub returns-in-Scalar : goal.returns-in-Scalar
-returns-in-Scalar c =
-    let known : Known c.args.self = accepted-known c.args.self (sym c.verdict.ensures ∙ ap verdict_paper c.in_default.is) in
+pub returns : goal.returns
+returns c =
+    let told = empty-told c.args.self (Ok c.in_ok-is_empty.field-0) c.in_ok-is_empty.ensures in
     c.rule.ensures
-    ∙ preferred-one _ known (some c) _ _ (sym (ap size_paper c.in-Size.is) ∙ c.size.ensures)
-    (sym (ap scalar_paper c.in-Scalar.is) ∙ c.most_general_scalar.ensures)
-    ∙ sym (among _ (sym c.verdict.ensures ∙ ap verdict_paper c.in_default.is))
+    ∙ preferred-one _ told.0 (told.1 ∙ c.if-branch.false) _ _ c.in_ok-size.ensures c.in_ok-scalar.ensures
+    ∙ sym (among _ told.0)

@@ -4,10 +4,10 @@ use borrow.Author.Tests.{lt-ltb, le-ltb}
 use Rattle.scalars.specs.Scalar.{member}
 use Rattle.scalars.proofs.scalar_set.ScalarSet.contains.Goals as goal
 
-pub returns-then-k-ge-COUNT : goal.returns-then-k-ge-COUNT
+pub returns-then-scalar-lt-COUNT : goal.returns-then-scalar-lt-COUNT
 unfolding member
-returns-then-k-ge-COUNT c = simp (le-ltb _ _ c.if-k-ge-COUNT.true)
+returns-then-scalar-lt-COUNT c = simp (lt-ltb _ _ c.if-scalar-lt-COUNT.true)
 
-pub returns : goal.returns
+pub returns-else-scalar-lt-COUNT : goal.returns-else-scalar-lt-COUNT
 unfolding member
-returns c = simp (lt-ltb _ _ c.if-k-ge-COUNT.false)
+returns-else-scalar-lt-COUNT c = simp (le-ltb _ _ c.if-scalar-lt-COUNT.false)

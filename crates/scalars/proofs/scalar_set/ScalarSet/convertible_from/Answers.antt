@@ -1,18 +1,19 @@
 -- `ScalarSet::convertible_from` meets its contract: the abstract scalars' sets by name, any other scalar's own.
 -- Assumes nothing.
-use mathlib.Core.Path.{◌∙◌}
+use mathlib.Core.Path.{sym, ◌∙◌}
+use borrow.Author.Tests.{eqb-true, eqb-false}
 use Rattle.scalars.specs.Domain.{converts}
 use Rattle.scalars.specs.Scalar.{convertible_from}
 use Rattle.scalars.proofs.Scalars.{own}
 use Rattle.scalars.proofs.scalar_set.ScalarSet.convertible_from.Goals as goal
 
-pub returns-then-k : goal.returns-then-k
+pub returns-then-eq : goal.returns-then-eq
 unfolding convertible_from converts
-returns-then-k c = simp c.if-k.true
+returns-then-eq c = simp (eqb-true _ _ (sym c.if-eq.ensures))
 
-pub returns-then-k-2 : goal.returns-then-k-2
+pub returns-then-eq-2 : goal.returns-then-eq-2
 unfolding convertible_from converts
-returns-then-k-2 c = simp c.if-k-2.true
+returns-then-eq-2 c = simp (eqb-true _ _ (sym c.if-eq-2.ensures))
 
-pub returns : goal.returns
-returns c = c.singleton.ensures ∙ own _ c.if-k.false c.if-k-2.false
+pub returns-else-eq-2 : goal.returns-else-eq-2
+returns-else-eq-2 c = c.singleton.ensures ∙ own _ (eqb-false _ _ (sym c.if-eq.ensures)) (eqb-false _ _ (sym c.if-eq-2.ensures))

@@ -5,9 +5,9 @@ use Rattle.scalars.specs.Scalar.{singleton_of}
 use Rattle.scalars.proofs.Scalars.{single}
 use Rattle.scalars.proofs.scalar_set.ScalarSet.singleton.Goals as goal
 
-pub returns-then-k-ge-COUNT : goal.returns-then-k-ge-COUNT
-unfolding singleton_of
-returns-then-k-ge-COUNT c = simp (le-ltb _ _ c.if-k-ge-COUNT.true)
+pub returns-then-scalar-lt-COUNT : goal.returns-then-scalar-lt-COUNT
+returns-then-scalar-lt-COUNT c = single _ c.if-scalar-lt-COUNT.true
 
-pub returns : goal.returns
-returns c = single _ c.if-k-ge-COUNT.false
+pub returns-else-scalar-lt-COUNT : goal.returns-else-scalar-lt-COUNT
+unfolding singleton_of
+returns-else-scalar-lt-COUNT c = simp (le-ltb _ _ c.if-scalar-lt-COUNT.false)

@@ -10,9 +10,6 @@ pub returns-then-self-ge-COUNT : goal.returns-then-self-ge-COUNT
 unfolding constructor_size
 returns-then-self-ge-COUNT c = simp (le-ltb _ _ c.if-self-ge-COUNT.true)
 
-pub size_of-requires : goal.size_of-requires
-size_of-requires c = c.if-self-ge-COUNT.false
-
 pub returns : goal.returns
 unfolding constructor_size
 returns c = simp (lt-ltb _ _ c.if-self-ge-COUNT.false) (ap accepted c.size_of.ensures)

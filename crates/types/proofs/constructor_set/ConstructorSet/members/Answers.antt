@@ -1,19 +1,8 @@
--- `ConstructorSet::members` meets its contract: no bit above the known ones is set, so the word's bits are the set's.
+-- `ConstructorSet::members` meets its contract.
 -- Assumes nothing.
-use mathlib.Core.Path.{ap, ◌∙◌}
-use Prim.Native.Nat.{◌^◌}
-use native.Mathlib.Omega.{arith}
-use lib.Dec.{lit≤}
-use borrow.Author.Tests.{lt-ltb, le-ltb}
-use Rattle.scalars.specs.OneBits.{members_within, listed}
+use mathlib.Core.Path.{refl}
 use Rattle.types.specs.Domain.{constructor_count}
-use Rattle.scalars.proofs.Bits.{bits-within}
 use Rattle.types.proofs.constructor_set.ConstructorSet.members.Goals as goal
 
-pub returns-then-mask : goal.returns-then-mask
-unfolding members_within
-returns-then-mask c = simp (le-ltb _ _ c.if-mask.true) c.no_members.ensures
-
 pub returns : goal.returns
-unfolding members_within
-returns c = simp (lt-ltb c.args.self.0 (2 ^ constructor_count) (omega arith)) (c.members_of.ensures ∙ ap listed (bits-within constructor_count 16 _ (lit≤ tt) (omega arith)))
+returns c = c.members_within.ensures.within constructor_count refl

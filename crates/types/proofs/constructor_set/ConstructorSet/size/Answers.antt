@@ -26,9 +26,10 @@ pub returns-then-not-is_singleton : goal.returns-then-not-is_singleton
 returns-then-not-is_singleton c = sym (size_several _ (omega arith) (omega arith) (sym c.is_singleton.ensures ∙ c.if-not-is_singleton.true))
 
 pub size_of-requires : goal.size_of-requires
-size_of-requires c = subst⁻¹ (λ (k : ℕ). k < constructor_count) c.number-member.ensures (number-below _ (omega arith) (omega arith))
+size_of-requires c =
+    subst⁻¹ (λ (k : ℕ). k < constructor_count) (rw c.from.ensures at c.number-member.ensures) (number-below _ (omega arith) (omega arith))
 
 pub returns : goal.returns
 returns c =
-    ap accepted c.size_of.ensures ∙ ap (λ (k : ℕ). accepted (get_or sizes k [])) c.number-member.ensures
+    ap accepted c.size_of.ensures ∙ ap (λ (k : ℕ). accepted (get_or sizes k [])) (rw c.from.ensures at c.number-member.ensures)
     ∙ sym (size-one _ (omega arith) (omega arith) (sym c.is_singleton.ensures ∙ c.if-not-is_singleton.false))

@@ -1,65 +1,39 @@
--- `ConstructorSize::constructor` meets its contract: each number of components, columns and rows is tested.
+-- `ConstructorSize::constructor` meets its contract: a size that does not exist is refused.
 -- Assumes nothing.
-use mathlib.Core.Path.{sym, ap, ◌∙◌}
+use mathlib.Core.Path.{ap}
 use mathlib.Core.List.{[], ◌∷◌}
-use Prim.Native.Nat.{ℕ, ◌≤◌}
+use Prim.Native.Nat.{ℕ}
 use native.Mathlib.Omega.{arith}
+use Rattle.std.proofs.Common.{rules}
 use Rattle.scalars.specs.Paper.{accepted}
 use Rattle.types.specs.Constructor.{constructor_of}
-use Rattle.types.proofs.Constructors.{inside}
 use Rattle.types.proofs.constructor_set.ConstructorSize.constructor.Goals as goal
 
-columns : (c : goal.Else-outside-3) → (2 ≤ c.in-Matrix.columns) × (c.in-Matrix.columns ≤ 4)
-columns c = inside _ (sym c.outside-in-Matrix.ensures ∙ c.if-outside-2.false)
-
-rows : (c : goal.Else-outside-3) → (2 ≤ c.in-Matrix.rows) × (c.in-Matrix.rows ≤ 4)
-rows c = inside _ (sym c.outside-in-Matrix-2.ensures ∙ c.if-outside-3.false)
-
-pub returns-then-outside : goal.returns-then-outside
+pub returns-in_err-size_place-in-Vector : goal.returns-in_err-size_place-in-Vector
 unfolding constructor_of
-returns-then-outside c = rw c.in-Vector.is (simp (sym c.outside.ensures ∙ c.if-outside.true))
+returns-in_err-size_place-in-Vector c = rw c.in-Vector.is (search rules)
 
-pub overflow_sub-result : goal.overflow_sub-result
-overflow_sub-result c = let i = inside _ (sym c.outside.ensures ∙ c.if-outside.false) in omega (arith, i.0)
-
-pub overflow_add-result : goal.overflow_add-result
-overflow_add-result c = let i = inside _ (sym c.outside.ensures ∙ c.if-outside.false) in omega (arith, i.1)
-
-pub returns-then-outside-2 : goal.returns-then-outside-2
+pub returns-in_err-size_place-in-Matrix : goal.returns-in_err-size_place-in-Matrix
 unfolding constructor_of
-returns-then-outside-2 c = rw c.in-Matrix.is (simp (sym c.outside-in-Matrix.ensures ∙ c.if-outside-2.true))
+returns-in_err-size_place-in-Matrix c = rw c.in-Matrix.is (search rules)
 
-pub returns-then-outside-3 : goal.returns-then-outside-3
+pub returns-in_err-size_place-in-Matrix-2 : goal.returns-in_err-size_place-in-Matrix-2
 unfolding constructor_of
-returns-then-outside-3 c =
-    rw c.in-Matrix.is (simp (sym c.outside-in-Matrix.ensures ∙ c.if-outside-2.false, sym c.outside-in-Matrix-2.ensures ∙ c.if-outside-3.true))
-
-pub overflow_sub-result-in-Matrix : goal.overflow_sub-result-in-Matrix
-overflow_sub-result-in-Matrix c = omega (arith, (columns c).0)
-
-pub overflow_mul-result : goal.overflow_mul-result
-overflow_mul-result c = omega (arith, (columns c).1)
-
-pub overflow_add-result-in-Matrix : goal.overflow_add-result-in-Matrix
-overflow_add-result-in-Matrix c = omega (arith, (columns c).1)
-
-pub overflow_sub-result-in-Matrix-2 : goal.overflow_sub-result-in-Matrix-2
-overflow_sub-result-in-Matrix-2 c = omega (arith, (rows c).0)
-
-pub overflow_add-result-in-Matrix-2 : goal.overflow_add-result-in-Matrix-2
-overflow_add-result-in-Matrix-2 c = omega (arith, (columns c).1, (rows c).1)
+returns-in_err-size_place-in-Matrix-2 c = rw c.in-Matrix.is (search rules)
 
 pub returns-in-Scalar : goal.returns-in-Scalar
 unfolding constructor_of
 returns-in-Scalar c = rw c.in-Scalar.is
 
-pub returns-else-outside : goal.returns-else-outside
+pub returns-in_ok-size_place-in-Vector : goal.returns-in_ok-size_place-in-Vector
 unfolding constructor_of
-returns-else-outside c =
-    let i = inside _ (sym c.outside.ensures ∙ c.if-outside.false) in
-    rw c.in-Vector.is (simp (sym c.outside.ensures ∙ c.if-outside.false) (ap (λ (k : ℕ). accepted (k ∷ [])) (omega (arith, i.0))))
+returns-in_ok-size_place-in-Vector c =
+    let (o, l, e) = c.in_ok-size_place-in-Vector.ensures in
+    rw (c.in-Vector.is, o) (ap (λ (k : ℕ). accepted (k ∷ [])) (omega (arith, e)))
 
-pub returns-else-outside-3 : goal.returns-else-outside-3
+pub returns-in_ok-size_place-in-Matrix-2 : goal.returns-in_ok-size_place-in-Matrix-2
 unfolding constructor_of
-returns-else-outside-3 c =
-    rw c.in-Matrix.is (simp (sym c.outside-in-Matrix.ensures ∙ c.if-outside-2.false, sym c.outside-in-Matrix-2.ensures ∙ c.if-outside-3.false))
+returns-in_ok-size_place-in-Matrix-2 c =
+    let (o, l, e) = c.in_ok-size_place-in-Matrix.ensures in
+    let (p, m, f) = c.in_ok-size_place-in-Matrix-2.ensures in
+    rw (c.in-Matrix.is, o, p) (ap (λ (k : ℕ). accepted (k ∷ [])) (omega (arith, e, f)))

@@ -1,14 +1,14 @@
--- `ConstructorSize::to_inner` meets its contract: the size's constructor, then the code.
+-- `to_inner` meets its contract: the size's refusal is passed on, and the rest is the code of its constructor.
 -- Assumes nothing.
-use mathlib.Core.Path.{sym, ap, ◌∙◌}
-use Rattle.types.specs.TypePaper.{constructor_paper}
+use mathlib.Core.Path.{sym}
+use Rattle.std.proofs.Common.{rules}
 use Rattle.types.specs.Constructor.{inner_of}
 use Rattle.types.proofs.constructor_set.ConstructorSize.to_inner.Goals as goal
 
-pub returns-in-Refused : goal.returns-in-Refused
+pub returns-in_err-constructor : goal.returns-in_err-constructor
 unfolding inner_of
-returns-in-Refused c = rw (sym c.constructor.ensures ∙ ap constructor_paper c.in-Refused.is)
+returns-in_err-constructor c = search rules
 
-pub returns-in-Constructor : goal.returns-in-Constructor
+pub returns : goal.returns
 unfolding inner_of
-returns-in-Constructor c = rw (sym c.constructor.ensures ∙ ap constructor_paper c.in-Constructor.is) c.value_code.ensures
+returns c = rw (sym c.in_ok-constructor.ensures) c.value_code.ensures

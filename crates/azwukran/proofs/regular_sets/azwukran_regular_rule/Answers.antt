@@ -1,7 +1,0 @@
--- `azwukran_regular_rule` meets its contract: the struct of what `regular_rule` answers. Assumes nothing.
-use mathlib.Core.Path.{ap, ◌∙◌}
-use Rattle.c_answers.specs.Answers.{rule_for_c}
-use Rattle.azwukran.proofs.regular_sets.azwukran_regular_rule.Goals as goal
-
-pub returns : goal.returns
-returns c = c.rule_for_c.ensures ∙ ap rule_for_c c.regular_rule.ensures

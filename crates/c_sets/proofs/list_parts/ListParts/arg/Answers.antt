@@ -1,0 +1,12 @@
+-- `arg` meets its contract: what is asked of the parts is asked of their List.
+-- Assumes nothing.
+use Rattle.scalars.proofs.HandedOn.{handed_on}
+use Rattle.c_sets.proofs.AskedLists.{asked-refused, asked-accepted}
+use Rattle.c_sets.proofs.list_parts.ListParts.arg.Goals as goal
+
+pub returns-in_err-handed_in : goal.returns-in_err-handed_in
+returns-in_err-handed_in c =
+    rw (handed_on c.from_residual.ensures.1) (asked-refused _ _ _ _ _ c.in_err-handed_in.ensures)
+
+pub returns : goal.returns
+returns c = asked-accepted _ _ _ _ c.in_ok-handed_in.ensures c.arg.ensures

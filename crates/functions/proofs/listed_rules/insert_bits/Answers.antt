@@ -1,6 +1,0 @@
--- `insert_bits` meets its contract: the places of its parts are those that the nested sequences give. Assumes nothing.
-use Rattle.functions.proofs.Places.{insert-at}
-use Rattle.functions.proofs.listed_rules.insert_bits.Goals as goal
-
-pub returns : goal.returns
-returns c = rw (c.scalar_or_vecn-input.ensures, c.concrete_int_scalars.ensures.listed) (insert-at _ c.requires)

@@ -1,0 +1,9 @@
+// What is read: a text, or the bytes of an expression. Beside it stand the names of types and functions and their index, which reading and
+// writing lend on from node to node.
+
+#[derive(Clone, Copy)]
+pub(crate) struct Source<'a> {
+    pub(crate) bytes: &'a [u8],
+    pub(crate) names: &'a [u8],
+    pub(crate) index: &'a [u8],
+}

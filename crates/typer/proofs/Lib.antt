@@ -1,0 +1,2 @@
+-- What the answers of one function use.
+mod Fits
