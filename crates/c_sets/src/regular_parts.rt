@@ -22,7 +22,8 @@ pub struct RegularParts {
 }
 
 impl RegularParts {
-    // The set itself. Refused as `Regular::verdict` is; a set of either kind is made by the same two lines.
+    // The set itself. Refused as `Regular::verdict` is; a set of either kind is made by the same two lines, since a `checked` of
+    // `Regular` would be one more public promise.
     pub fn set(self) -> Result<Regular, Refusal>
         ensures { regular_paper result ≡ of_regular self.arity self.constructors.0 self.scalars.0 self.conclusion checked_regular no_set }
     {

@@ -56,7 +56,8 @@ impl FullSet {
         self.preferred(left)
     }
 
-    // The first of the rules that are left: the lowest constructor over the lowest scalar.
+    // The first of the rules that are left: the lowest constructor over the lowest scalar. That these are known is required: the fields of a set
+    // are open, so no type says it of what the steps left.
     fn preferred(self, left: Regular) -> Result<Chosen, NoRule>
         requires { Known left }
         ensures { outcome_paper result ≡ preferred_in self.set (bits constructor_count left.constructors.0) (bits scalar_count left.scalars.0) }

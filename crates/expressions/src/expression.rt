@@ -21,6 +21,8 @@ pub const DEEPEST: usize = 16;
 // The type codes of leaves are 0 to this one.
 pub const LAST_LEAF: u8 = 156;
 
+// The tags are numbers: they spell bytes that are read and written.
+//
 // The tag of a constant leaf.
 pub const LEAF: u8 = 0;
 // The tag of a call.

@@ -19,7 +19,8 @@ pub fn rule_total(function: u8) -> Result<u8, Refusal>
         FunctionSet::Regular(set) => {
             let rows = set.constructors.0.count_ones();
             let row = set.scalars.0.count_ones();
-            // The product that `expand` of `lists` has too: two counts of ones, and no method of a set for them.
+            // The product that `expand` of `lists` has too: two counts of ones. A method of a set for them would be one more
+            // public promise.
             Ok((rows * row) as u8)
         }
         FunctionSet::List(listed) => Ok(rule_count(listed)),

@@ -47,7 +47,7 @@ fn stray(bytes: &[u8], rules: usize) -> bool
 }
 
 // The mask that the first n bytes hold, from the highest down. A loop, since a closure that folds knows no bound of the mask so far; bytes
-// and their number, as the definition takes them.
+// and their number, as the definition takes them. Not `from_le_bytes`, since there may be fewer than eight.
 fn word_in(bytes: &[u8], n: usize) -> u64
     requires { (n ≤ 8) × (n ≤ length bytes.now) }
     ensures { result ≡ mask_in (take n bytes.now) }

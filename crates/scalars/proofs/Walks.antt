@@ -6,7 +6,7 @@
 -- `bits n l.bit-iterator.0`, or `select xs l.bit-iterator.0`. It begins with the mask, by `c.into_iter-bit-iterator.ensures.into_iter_gives`.
 -- A turn is `walked-bits n _ .. c.loop-bit.invariant.0 c.in-Some.ensures.steps.1 c.number.ensures`, whose `.numbers` are
 -- those of the turn before without the first; the end is `ended-bits _ .. n c.in-None.ensures.steps.1`. A call `OneBitsIter(mask).next()`
--- by itself has the same steps.
+-- by itself has the same steps. Each walk's answer writes the arguments out: it is an instance, and a lemma over a whole turn would be longer.
 use mathlib.Core.Path.{◌≡◌, refl, sym, ap, ap₂, ◌∙◌, subst, subst⁻¹}
 use mathlib.Core.Bool.{Bool, true, false}
 use mathlib.Core.List.{List, [], ◌∷◌, map}

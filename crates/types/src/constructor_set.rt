@@ -159,7 +159,7 @@ impl ConstructorSet {
         members_within(self.0, ConstructorSet::ALL.0)
     }
 
-    // The size of the one member. Refused 7 for an unknown bit, 1 for the empty set, 2 for several members.
+    // The size of the one member. Refused 7 for an unknown bit, 1 for the empty set, 2 for several members: tests of a mask of its own.
     pub fn size(self) -> Result<ConstructorSize, Refusal>
         ensures { size_paper result ≡ set_size self.0 }
     {

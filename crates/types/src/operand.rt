@@ -23,7 +23,7 @@ pub struct Operand {
 }
 
 impl Operand {
-    // The operand of a type code and a mark.
+    // The operand of a type code and a mark. Not a `From`: of two bytes it would make a pair at each use.
     pub fn of(code: u8, mark: u8) -> Self
         ensures { result ≡ operand_of code mark }
     {
