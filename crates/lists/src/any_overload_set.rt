@@ -1,12 +1,12 @@
 // A set of either kind, so that callers need not know which: naga's own form, an enum whose methods ask the kind.
 //
-// Accepted sets have their kind's values, 0 before a Regular set's and 1 before a List's. A refusal stands for both kinds, so its values are one
-// run, those of the Regular set of no rules.
+// A set has its kind's values, 0 before a Regular set's and 1 before a List's. A refusal is an `Err`, which carries no set; its values are those
+// of the empty set of the kind that was asked.
 
 ghost use Rattle.std.specs.Prelude.{◌≡◌};
 ghost use Rattle.scalars.specs.Paper.{test_paper, count_paper};
 ghost use Rattle.rules.specs.RulePaper.{rule_paper, listing_paper, types_paper};
-ghost use Rattle.lists.specs.AnyPaper.{any_paper};
+ghost use Rattle.lists.specs.AnyPaper.{any_paper, no_regular, no_list, none_like};
 ghost use Rattle.regular.specs.Regular.{checked_regular, regular_empty, regular_count, regular_arg, regular_concrete, regular_preferred, regular_listing, regular_allowed};
 ghost use Rattle.lists.specs.List.{checked_list, list_empty, list_count, list_arg, list_step, list_preferred, list_listing, list_allowed};
 ghost use Rattle.rules.specs.declared.rule.Keep.TheVariants as keep;
@@ -26,7 +26,7 @@ pub enum AnyOverloadSet {
 impl AnyOverloadSet {
     // A Regular set as a set of either kind, refused as its verdict is.
     pub fn from_regular(set: Regular) -> Result<AnyOverloadSet, Refusal>
-        ensures { any_paper result ≡ of_regular (checked_regular set) }
+        ensures { any_paper no_regular result ≡ of_regular (checked_regular set) }
     {
         set.verdict()?;
         Ok(AnyOverloadSet::Regular(set))
@@ -34,7 +34,7 @@ impl AnyOverloadSet {
 
     // A List as a set of either kind, tested as `checked` does, with 255 in what is not in use.
     pub fn from_list(list: List) -> Result<AnyOverloadSet, Refusal>
-        ensures { any_paper result ≡ of_list (checked_list list) }
+        ensures { any_paper no_list result ≡ of_list (checked_list list) }
     {
         Ok(AnyOverloadSet::List(list.checked()?))
     }
@@ -71,7 +71,7 @@ impl AnyOverloadSet {
 
     // The rules whose type at an argument fits a part of this one, as its kind answers.
     pub fn arg(self, part: Part, i: usize, t: u8) -> Result<AnyOverloadSet, Refusal>
-        ensures { any_paper result ≡ by_set (λ r. of_regular (regular_arg part i t r)) (λ l. of_list (list_arg part i t l)) self }
+        ensures { any_paper (none_like self) result ≡ by_set (λ r. of_regular (regular_arg part i t r)) (λ l. of_list (list_arg part i t l)) self }
     {
         match self {
             AnyOverloadSet::Regular(set) => Ok(AnyOverloadSet::Regular(set.arg(part, i, t)?)),
@@ -81,7 +81,7 @@ impl AnyOverloadSet {
 
     // The rules without an abstract argument, as its kind answers.
     pub fn concrete_only(self) -> Result<AnyOverloadSet, Refusal>
-        ensures { any_paper result ≡ by_set (λ r. of_regular (regular_concrete r)) (λ l. of_list (list_step keep.Concrete l)) self }
+        ensures { any_paper (none_like self) result ≡ by_set (λ r. of_regular (regular_concrete r)) (λ l. of_list (list_step keep.Concrete l)) self }
     {
         match self {
             AnyOverloadSet::Regular(set) => Ok(AnyOverloadSet::Regular(set.concrete_only()?)),

@@ -6,6 +6,6 @@ mod index;
 mod measured;
 mod names;
 
-pub use index::{Word, built_in_index, word_of};
+pub use index::{INDEX_LENGTH, Word, built_in_index, word_of};
 pub use measured::{is_measured, measured_name};
-pub use names::{TYPE_COUNT, WORD_COUNT, built_in_names, spelling};
+pub use names::{NAMES_LENGTH, TYPE_COUNT, WORD_COUNT, built_in_names, spelling};

@@ -5,6 +5,8 @@
 ghost use Rattle.std.specs.Prelude.{◌≡◌};
 ghost use Rattle.names.specs.Names.{same, measured_name};
 
+use crate::index::is_same;
+
 // The bytes of the word.
 const LENGTH: usize = 8;
 
@@ -21,5 +23,5 @@ pub fn measured_name() -> [u8; LENGTH]
 pub fn is_measured(run: &[u8]) -> bool
     ensures { result ≡ same run.now measured_name }
 {
-    run == measured_name().as_slice()
+    is_same(run, &measured_name())
 }

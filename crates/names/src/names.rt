@@ -16,13 +16,13 @@ pub const TYPE_COUNT: usize = 157;
 pub const WORD_COUNT: usize = TYPE_COUNT + FUNCTION_COUNT as usize;
 
 // The bytes of all names and of the space behind each.
-const ALL: usize = 2678;
+pub const NAMES_LENGTH: usize = 2678;
 
-const NAMES: [u8; ALL] =
+const NAMES: [u8; NAMES_LENGTH] =
     *b"abstract-int abstract-float i32 i16 i64 u32 u16 u64 f32 f16 f64 bool vec2<abstract-int> vec2<abstract-float> vec2<i32> vec2<i16> vec2<i64> vec2<u32> vec2<u16> vec2<u64> vec2<f32> vec2<f16> vec2<f64> vec2<bool> vec3<abstract-int> vec3<abstract-float> vec3<i32> vec3<i16> vec3<i64> vec3<u32> vec3<u16> vec3<u64> vec3<f32> vec3<f16> vec3<f64> vec3<bool> vec4<abstract-int> vec4<abstract-float> vec4<i32> vec4<i16> vec4<i64> vec4<u32> vec4<u16> vec4<u64> vec4<f32> vec4<f16> vec4<f64> vec4<bool> mat2x2<abstract-int> mat2x2<abstract-float> mat2x2<i32> mat2x2<i16> mat2x2<i64> mat2x2<u32> mat2x2<u16> mat2x2<u64> mat2x2<f32> mat2x2<f16> mat2x2<f64> mat2x2<bool> mat2x3<abstract-int> mat2x3<abstract-float> mat2x3<i32> mat2x3<i16> mat2x3<i64> mat2x3<u32> mat2x3<u16> mat2x3<u64> mat2x3<f32> mat2x3<f16> mat2x3<f64> mat2x3<bool> mat2x4<abstract-int> mat2x4<abstract-float> mat2x4<i32> mat2x4<i16> mat2x4<i64> mat2x4<u32> mat2x4<u16> mat2x4<u64> mat2x4<f32> mat2x4<f16> mat2x4<f64> mat2x4<bool> mat3x2<abstract-int> mat3x2<abstract-float> mat3x2<i32> mat3x2<i16> mat3x2<i64> mat3x2<u32> mat3x2<u16> mat3x2<u64> mat3x2<f32> mat3x2<f16> mat3x2<f64> mat3x2<bool> mat3x3<abstract-int> mat3x3<abstract-float> mat3x3<i32> mat3x3<i16> mat3x3<i64> mat3x3<u32> mat3x3<u16> mat3x3<u64> mat3x3<f32> mat3x3<f16> mat3x3<f64> mat3x3<bool> mat3x4<abstract-int> mat3x4<abstract-float> mat3x4<i32> mat3x4<i16> mat3x4<i64> mat3x4<u32> mat3x4<u16> mat3x4<u64> mat3x4<f32> mat3x4<f16> mat3x4<f64> mat3x4<bool> mat4x2<abstract-int> mat4x2<abstract-float> mat4x2<i32> mat4x2<i16> mat4x2<i64> mat4x2<u32> mat4x2<u16> mat4x2<u64> mat4x2<f32> mat4x2<f16> mat4x2<f64> mat4x2<bool> mat4x3<abstract-int> mat4x3<abstract-float> mat4x3<i32> mat4x3<i16> mat4x3<i64> mat4x3<u32> mat4x3<u16> mat4x3<u64> mat4x3<f32> mat4x3<f16> mat4x3<f64> mat4x3<bool> mat4x4<abstract-int> mat4x4<abstract-float> mat4x4<i32> mat4x4<i16> mat4x4<i64> mat4x4<u32> mat4x4<u16> mat4x4<u64> mat4x4<f32> mat4x4<f16> mat4x4<f64> mat4x4<bool> other abs sign min max clamp sin cos tan asin acos atan sinh cosh tanh asinh acosh atanh saturate radians degrees ceil floor round fract trunc exp exp2 log log2 sqrt inverseSqrt atan2 pow step fma smoothStep countTrailingZeros countLeadingZeros countOneBits reverseBits firstTrailingBit firstLeadingBit pack4x8snorm pack4x8unorm pack2x16snorm pack2x16unorm pack2x16float pack4xI8 pack4xU8 pack4xI8Clamp pack4xU8Clamp unpack4x8snorm unpack4x8unorm unpack2x16snorm unpack2x16unorm unpack2x16float unpack4xI8 unpack4xU8 dot4I8Packed dot4U8Packed dot modf frexp ldexp outer cross distance length normalize faceForward reflect refract mix inverse transpose determinant quantizeToF16 extractBits insertBits ";
 
 // The names of all types and functions, with a space behind each.
-pub fn built_in_names() -> [u8; ALL]
+pub fn built_in_names() -> [u8; NAMES_LENGTH]
     ensures { result ≡ built_in_names }
 {
     NAMES

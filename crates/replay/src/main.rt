@@ -30,47 +30,50 @@ mod texts;
 mod typings;
 mod walk;
 
+use records::room;
 use std::io;
 use std::io::Print;
 use std::rt::Files;
 use walk::{replay, replay_expanding};
 
 fn main(rt: HostRuntime) -> io::Result<()> {
-    scalars(&rt)?;
-    sets(&rt)?;
-    calls(&rt)?;
-    expressions(&rt)
+    // Made once and lent on: each comparison has a walk of its own, and each walk would have a room of its own on the stack.
+    let mut space = room();
+    scalars(&rt, &mut space)?;
+    sets(&rt, &mut space)?;
+    calls(&rt, &mut space)?;
+    expressions(&rt, &mut space)
 }
 
 // Scalars: their combinations, conversions, named sets and consensus.
-fn scalars(rt: &(impl Files + Print)) -> io::Result<()> {
-    replay(rt, "combine", combine::agrees)?;
-    replay(rt, "convertible", convertible::agrees)?;
-    replay(rt, "named_sets", named_sets::agrees)?;
-    replay(rt, "consensus", consensus::agrees)?;
-    replay(rt, "givers", consensus::agrees)
+fn scalars(rt: &(impl Files + Print), space: &mut [u8]) -> io::Result<()> {
+    replay(rt, "combine", space, combine::agrees)?;
+    replay(rt, "convertible", space, convertible::agrees)?;
+    replay(rt, "named_sets", space, named_sets::agrees)?;
+    replay(rt, "consensus", space, consensus::agrees)?;
+    replay(rt, "givers", space, consensus::agrees)
 }
 
 // Sets made by hand.
-fn sets(rt: &(impl Files + Print)) -> io::Result<()> {
-    replay_expanding(rt, "handsets", handsets::agrees, agreement::expands)?;
-    replay(rt, "boundary", boundary::agrees)
+fn sets(rt: &(impl Files + Print), space: &mut [u8]) -> io::Result<()> {
+    replay_expanding(rt, "handsets", space, handsets::agrees, agreement::expands)?;
+    replay(rt, "boundary", space, boundary::agrees)
 }
 
 // Calls of the functions.
-fn calls(rt: &(impl Files + Print)) -> io::Result<()> {
-    replay(rt, "calls", call_records::agrees)?;
-    replay(rt, "measured_calls", call_records::agrees)?;
-    replay(rt, "refused", refused::agrees)?;
-    replay(rt, "measured_refused", refused::agrees)?;
-    replay(rt, "allowed", allowed::agrees)
+fn calls(rt: &(impl Files + Print), space: &mut [u8]) -> io::Result<()> {
+    replay(rt, "calls", space, call_records::agrees)?;
+    replay(rt, "measured_calls", space, call_records::agrees)?;
+    replay(rt, "refused", space, refused::agrees)?;
+    replay(rt, "measured_refused", space, refused::agrees)?;
+    replay(rt, "allowed", space, allowed::agrees)
 }
 
 // Expressions, and their texts.
-fn expressions(rt: &(impl Files + Print)) -> io::Result<()> {
-    replay(rt, "worksheets", typings::agrees)?;
-    replay(rt, "measured_worksheets", typings::agrees)?;
-    replay(rt, "room", typings::agrees)?;
-    replay(rt, "limits", typings::agrees)?;
-    replay(rt, "texts", texts::agrees)
+fn expressions(rt: &(impl Files + Print), space: &mut [u8]) -> io::Result<()> {
+    replay(rt, "worksheets", space, typings::agrees)?;
+    replay(rt, "measured_worksheets", space, typings::agrees)?;
+    replay(rt, "room", space, typings::agrees)?;
+    replay(rt, "limits", space, typings::agrees)?;
+    replay(rt, "texts", space, texts::agrees)
 }

@@ -4,15 +4,18 @@ use mathlib.Core.Path.{◌≡◌, refl, sym, ap, ◌∙◌}
 use mathlib.Core.Bool.{Bool, true, false}
 use mathlib.Core.List.{List, [], ◌∷◌}
 use Prim.Native.Nat.{ℕ}
+use native.Mathlib.Omega.{arith}
 use lib.Dec.{eqb}
-use lib.ListN.{get_or, drop, replicate}
-use Rattle.std.specs.Prelude.{Result, Ok, Err}
+use lib.ListN.{get_or, drop, length, replicate}
+use Rattle.std.specs.Prelude.{Option, Some, None, Result, Ok, Err, IfSome}
 use Rattle.scalars.specs.Mask.{choose, digit, odd}
 use Rattle.scalars.specs.Refusal.{numbered}
-use Rattle.scalars.specs.Paper.{Paper, accepted, refusal, unused, answer_paper, verdict_paper, test_paper, count_paper, scalar_paper, members_paper}
+use Rattle.scalars.specs.Paper.{Paper, accepted, refusal, unused, values, answer_paper, verdict_paper, test_paper, count_paper, scalar_paper, walk_paper, members_paper}
 use Rattle.scalars.specs.declared.refusal.Refusal.{Refusal}
 use Rattle.scalars.specs.declared.refusal.Refusal.TheVariants.{EmptySet, SeveralConstructors, TooMany, NoSuchArgument, WrongCount, WrongShape, Unknown, IllFormed, TooLarge, NoRoom, NothingToCombine, NoConsensus, NoConclusion, UnknownRun, Misplaced, WrongNumber, MeasuredAbstract}
 use Rattle.scalars.specs.declared.scalar_set.Scalar.{Scalar}
+use Rattle.scalars.specs.declared.one_bits_iter.OneBit.{OneBit}
+use Rattle.scalars.specs.declared.one_bits_iter.OneBitsIter.{OneBitsIter}
 use Rattle.scalars.specs.declared.one_bits_iter.Members.{Members}
 
 -- ---- refusals
@@ -94,3 +97,14 @@ scalar-one = answer-one (λ s. s.0 ∷ []) (unused ∷ []) (λ us. record { 0 = 
 
 pub members-one : (a b : Result Members Refusal) → members_paper a ≡ members_paper b → a ≡ b
 members-one = answer-one (λ m. m.count ∷ m.numbers) (replicate 17 unused) (λ us. record { count = get_or us 0 0; numbers = drop 1 us }) (λ m. refl)
+
+-- ---- a step of a walk: the bit, and where there is one, what is left of the walk
+
+pub walk-one : (x y : Option OneBit) (t u : OneBitsIter) → walk_paper x t ≡ walk_paper y u → (x ≡ y) × IfSome x (λ b. t ≡ u)
+walk-one (Some b) (Some d) t u e =
+    let bit : b.0 ≡ d.0 = cc in
+    let rest : t.0 ≡ u.0 = cc in
+    (ap (λ (n : ℕ). Some (record { 0 = n })) bit, ap (λ (n : ℕ). record { 0 = n }) rest)
+walk-one (Some b) None t u e = let z = ap (λ w. length (values w)) e in absurd (omega arith)
+walk-one None (Some d) t u e = let z = ap (λ w. length (values w)) e in absurd (omega arith)
+walk-one None None t u e = (refl, tt)

@@ -1,10 +1,9 @@
 -- Bytes stored in a strip one after the other: those of two parts, and what then stands in front. Assumes nothing.
 use mathlib.Core.Path.{◌≡◌, sym, ap, ◌∙◌}
-use mathlib.Core.List.{List, [], ◌∷◌, ◌++◌, append_assoc}
-use Prim.Native.Nat.{ℕ, suc, ◌+◌, ◌-◌, ◌≤◌}
+use mathlib.Core.List.{List, [], ◌∷◌, ◌++◌}
+use Prim.Native.Nat.{ℕ, suc, ◌+◌, ◌≤◌}
 use native.Mathlib.Nat.{add-zero}
 use native.Mathlib.Omega.{arith}
-use borrow.Rule.Slice.PartMut.{put_mid, post_of, Post-is}
 use lib.ListN.{length, take, drop, set}
 use lib.Seq.{sets, sets-eq, take-append_seam}
 
@@ -18,9 +17,3 @@ sets_append d i (x ∷ a) b =
 -- bytes stored from the front on stand in front
 pub stored_front : (d t : List ℕ) → length t ≤ length d → take (length t) (sets d 0 t) ≡ t
 stored_front d t h = ap (take (length t)) (sets-eq t d 0 (omega arith)) ∙ take-append_seam t (drop (0 + length t) d)
-
--- bytes copied over those from one offset to another are stored there
-pub copied : (d bs cs : List ℕ) (at e : ℕ) → e ≡ at + length bs → cs ≡ bs → e ≤ length d → put_mid at (e - at) d cs ≡ sets d at bs
-copied d bs cs at e behind same h =
-    let rest : post_of at (e - at) d ≡ drop (at + length bs) d = Post-is at e d (omega arith) ∙ ap (λ i. drop i d) behind in
-    rw (rest, same) (sym (sets-eq bs d at (omega arith) ∙ append_assoc (take at d) bs (drop (at + length bs) d)))

@@ -54,7 +54,8 @@ impl<'a> Source<'a> {
                 if is_measured(&self.bytes[start..end]) {
                     return self.read_measured(end, nodes, made, strip);
                 }
-                match word_of(&self.bytes[start..end], self.names, self.index) {
+                let (names, index) = (self.names, self.index);
+                match word_of(&self.bytes[start..end], names, index) {
                     None => Err(Refusal::UnknownRun(start)),
                     Some(Word::TypeName(code)) => Ok(put_leaf(strip, LEAF, code, end, nodes, made)),
                     Some(Word::FunctionName(function)) => {
@@ -84,7 +85,8 @@ impl<'a> Source<'a> {
     {
         match next_token(self.bytes, at) {
             Token::Run(start, end) => {
-                match word_of(&self.bytes[start..end], self.names, self.index) {
+                let (names, index) = (self.names, self.index);
+                match word_of(&self.bytes[start..end], names, index) {
                     Some(Word::TypeName(code)) => {
                         Ok(put_leaf(strip, MEASURED_LEAF, code, end, nodes, made))
                     }

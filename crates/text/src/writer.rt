@@ -31,6 +31,7 @@ impl<'a> Source<'a> {
         requires { NodeThere self.now.bytes.now self.now.names.now self.now.index.now at made }
         ensures { NodeWritten self.now.bytes.now self.now.names.now self.now.index.now at made strip.old strip.new result }
     {
+        let (names, index) = (self.names, self.index);
         let tag = self.bytes[at];
         // Widened by `as`, here and below: with `From` every answer of this function carries an equation more.
         let code = self.bytes[at + 1] as usize;
@@ -39,7 +40,7 @@ impl<'a> Source<'a> {
                 strip,
                 made,
                 tag == MEASURED_LEAF,
-                spelling(self.names, self.index, code),
+                spelling(names, index, code),
             );
             return Turn {
                 at: at + 2,
@@ -47,11 +48,7 @@ impl<'a> Source<'a> {
             };
         }
         let count = self.bytes[at + 2] as usize;
-        let named = put_all(
-            strip,
-            made,
-            spelling(self.names, self.index, TYPE_COUNT + code),
-        );
+        let named = put_all(strip, made, spelling(names, index, TYPE_COUNT + code));
         strip[named] = OPEN;
         if count == 0 {
             strip[named + 1] = CLOSE;
@@ -101,13 +98,15 @@ fn write_leaf(strip: &mut [u8; ENOUGH_BYTES], at: usize, measured: bool, name: &
     put_all(strip, at, name)
 }
 
-// Puts bytes on the strip from an offset on, where they have room. Answers the offset behind them.
+// Puts bytes on the strip from an offset on, where they have room. Answers the offset behind them. One by one: names are short, and a copy of
+// the whole asks the C library for `memmove`.
 fn put_all(strip: &mut [u8; ENOUGH_BYTES], at: usize, bytes: &[u8]) -> usize
     requires { at + length bytes.now ≤ text_room }
     ensures offset { result ≡ at + length bytes.now }
     ensures written { strip.new ≡ sets strip.old at bytes.now }
 {
-    let behind = at + bytes.len();
-    strip[at..behind].copy_from_slice(bytes);
-    behind
+    for (i, byte) in bytes.iter().enumerate() {
+        strip[at + i] = *byte;
+    }
+    at + bytes.len()
 }

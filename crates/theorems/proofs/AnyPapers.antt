@@ -10,7 +10,7 @@ use Rattle.scalars.specs.Mask.{choose}
 use Rattle.scalars.specs.declared.refusal.Refusal.{Refusal}
 use Rattle.lists.specs.declared.any_overload_set.AnyOverloadSet.{AnyOverloadSet}
 use Rattle.lists.specs.declared.any_overload_set.AnyOverloadSet.TheVariants.{Regular, List}
-use Rattle.lists.specs.AnyPaper.{any_values, no_any, any_paper}
+use Rattle.lists.specs.AnyPaper.{any_values, any_paper}
 use Rattle.scalars.proofs.Papers.{answer-one}
 use Rattle.regular.proofs.SetPapers.{set_named, set_back}
 use Rattle.lists.proofs.ChosenPapers.{list_named, list_back}
@@ -22,5 +22,5 @@ any_back : (s : AnyOverloadSet) → any_named (any_values s) ≡ s
 any_back (Regular r) = ap Regular (set_back r)
 any_back (List l) = ap List (list_back l)
 
-pub any-one : (a b : Result AnyOverloadSet Refusal) → any_paper a ≡ any_paper b → a ≡ b
-any-one = answer-one any_values no_any any_named any_back
+pub any-one : (none : L.List ℕ) (a b : Result AnyOverloadSet Refusal) → any_paper none a ≡ any_paper none b → a ≡ b
+any-one none = answer-one any_values none any_named any_back

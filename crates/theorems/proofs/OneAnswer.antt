@@ -15,8 +15,9 @@ use Rattle.rules.specs.Rule.{passes}
 use Rattle.rules.specs.declared.rule.Part.TheVariants.{Number}
 use Rattle.rules.specs.declared.rule.Keep.TheVariants.{Argument}
 use Rattle.lists.specs.List.{signatures}
+use Rattle.lists.specs.AnyPaper.{no_regular, no_list, none_like}
 use Rattle.lists.specs.declared.walks.BothSteps.{BothSteps}
-use Rattle.scalars.proofs.Papers.{refusal-one, members-one, scalar-one, test-one, verdict_one, count-one}
+use Rattle.scalars.proofs.Papers.{refusal-one, walk-one, members-one, scalar-one, test-one, verdict_one, count-one}
 use Rattle.types.proofs.TypePapers.{size-one, constructor-one, code_one, combination-one, consensus-one, leaf-one}
 use Rattle.theorems.proofs.ReadPapers.{read_one}
 use Rattle.rules.proofs.RulePapers.{listing-one, types-one, rule-one}
@@ -36,12 +37,7 @@ use Rattle.theorems.specs.OneAnswer.{EachFunction}
 
 -- a step of a walk, and what is left of the walk
 step-one : (s : OneBitsIter) (x y : Option OneBit) (t u : OneBitsIter) → OneBitsGive s x t → OneBitsGive s y u → (x ≡ y) × (t ≡ u)
-step-one s (Some b) (Some d) t u p q =
-    let e : accepted (b.0 ∷ t.0 ∷ []) ≡ accepted (d.0 ∷ u.0 ∷ []) = p.1 ∙ sym q.1 in
-    let bit : b.0 ≡ d.0 = cc in
-    let rest : t.0 ≡ u.0 = cc in
-    (ap (λ (n : ℕ). Some (record { 0 = n })) bit, ap (λ (n : ℕ). record { 0 = n }) rest)
-step-one s (Some b) None t u p q = let z = ap (λ w. length (values w)) (p.1 ∙ sym q.1) in absurd (omega arith)
+step-one s (Some b) y t u p q = walk-one (Some b) y t u (p.1 ∙ sym q.1)
 step-one s None (Some d) t u p q = let z = ap (λ w. length (values w)) (p.1 ∙ sym q.1) in absurd (omega arith)
 step-one s None None t u p q = (refl, p.0.1 ∙ sym q.0.1)
 
@@ -126,13 +122,13 @@ each-function = record {
   «function_set» = λ κs a x y v w p q. (function-one x y (p ∙ sym q), refl);
   «rule_total» = λ κs a x y v w p q. (count-one x y (p ∙ sym q), refl);
   -- lists
-  «AnyOverloadSet::from_regular» = λ κs a x y v w p q. (any-one x y (p ∙ sym q), refl);
-  «AnyOverloadSet::from_list» = λ κs a x y v w p q. (any-one x y (p ∙ sym q), refl);
+  «AnyOverloadSet::from_regular» = λ κs a x y v w p q. (any-one no_regular x y (p ∙ sym q), refl);
+  «AnyOverloadSet::from_list» = λ κs a x y v w p q. (any-one no_list x y (p ∙ sym q), refl);
   «AnyOverloadSet::is_empty» = λ κs a x y v w p q. (test-one x y (p ∙ sym q), refl);
   «AnyOverloadSet::min_arguments» = λ κs a x y v w p q. (count-one x y (p ∙ sym q), refl);
   «AnyOverloadSet::max_arguments» = λ κs a x y v w p q. (count-one x y (p ∙ sym q), refl);
-  «AnyOverloadSet::arg» = λ κs a x y v w p q. (any-one x y (p ∙ sym q), refl);
-  «AnyOverloadSet::concrete_only» = λ κs a x y v w p q. (any-one x y (p ∙ sym q), refl);
+  «AnyOverloadSet::arg» = λ κs a x y v w p q. (any-one (none_like a.0) x y (p ∙ sym q), refl);
+  «AnyOverloadSet::concrete_only» = λ κs a x y v w p q. (any-one (none_like a.0) x y (p ∙ sym q), refl);
   «AnyOverloadSet::most_preferred» = λ κs a x y v w p q. (rule-one x y (p ∙ sym q), refl);
   «AnyOverloadSet::overload_list» = λ κs a x y v w p q. (listing-one x y (p ∙ sym q), refl);
   «AnyOverloadSet::allowed_args» = λ κs a x y v w p q. (types-one x y (p ∙ sym q), refl);

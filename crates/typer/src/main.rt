@@ -8,6 +8,7 @@
 #![tactic(auto)]
 
 ghost use Rattle.std.specs.Prelude.{◌≤◌, length, IfOk};
+ghost use Rattle.worksheet.specs.private.Room.{enough_bytes};
 
 use expressions::MEASURED_LEAF;
 use input::read_full;
@@ -34,8 +35,10 @@ fn main(rt: HostRuntime) -> io::Result<()> {
     answer(&rt, &space[..n], &mut sheet)
 }
 
-// Types the input and prints what came out.
-fn answer(out: &impl Print, input: &[u8], sheet: &mut [u8]) -> io::Result<()> {
+// Types the input and prints what came out. The sheet has room for any worksheet.
+fn answer(out: &impl Print, input: &[u8], sheet: &mut [u8]) -> io::Result<()>
+    requires { enough_bytes ≤ length sheet.old }
+{
     match typed(input, sheet) {
         Ok(typed) => {
             println!(out; "0 0 {}", typed.result.code)?;

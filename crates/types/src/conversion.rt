@@ -30,13 +30,15 @@ pub struct Consensus {
     pub component: Option<usize>,
 }
 
-// How many ordered pairs of scalars there are.
-const PAIRS: usize = 144;
+// How many scalars there are, which is a row of the table below, and how many ordered pairs of them.
+const ROW: usize = Scalar::COUNT as usize;
+
+const PAIRS: usize = ROW * ROW;
 
 // No scalar, in the table below. Its entries are bytes: of `Option`s it would be twice as large, and no plainer to read.
 const NONE: u8 = 255;
 
-// The combination of scalars a and b, at `Scalar::COUNT` x a + b: the one that the other converts to, or NONE. A row for each a.
+// The combination of scalars a and b, at `ROW` x a + b: the one that the other converts to, or NONE. A row for each a.
 const COMBINED: [u8; PAIRS] = [
     // ABSTRACT_INT
     0, 1, 2, 3, 4, 5, 6, 7, 8, 9, 10, NONE,
@@ -84,7 +86,8 @@ fn combine_by(table: &[u8], a: Scalar, b: Scalar) -> Option<(Scalar, Side)>
     requires { (table.now ≡ combinations) × (a.0 < scalar_count) × (b.0 < scalar_count) }
     ensures { combination_paper (Ok result) ≡ combined a.0 b.0 }
 {
-    let c = table[usize::from(a.0 * Scalar::COUNT + b.0)];
+    // Each is widened first: `agree_from` waits for this place at every turn, and a sum of bytes is cut to a byte before it is one.
+    let c = table[usize::from(a.0) * ROW + usize::from(b.0)];
     if c == NONE {
         return None;
     }

@@ -1,7 +1,7 @@
--- `is_measured` meets its contract: what `==` answers is whether the bytes are the same. Assumes nothing.
-use mathlib.Core.Path.{◌∙◌}
-use Rattle.names.proofs.SameBytes.{pointwise-same}
+-- `is_measured` meets its contract: the run is compared with the word's own bytes. Assumes nothing.
+use mathlib.Core.Path.{ap, ◌∙◌}
+use Rattle.names.specs.Names.{same}
 use Rattle.names.proofs.measured.is_measured.Goals as goal
 
 pub returns : goal.returns
-returns c = rw (c.as_slice.ensures, c.measured_name.ensures) at c.eq.ensures ∙ pointwise-same _ _
+returns c = c.is_same.ensures ∙ ap (same _) c.measured_name.ensures
