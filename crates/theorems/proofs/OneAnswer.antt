@@ -1,8 +1,6 @@
 -- Each public function has one answer, as specs/OneAnswer.antt states it: its promise is an equation, of the answer or of its paper, and
 -- papers are one to one. Assumes nothing.
 use mathlib.Core.Path.{◌≡◌, refl, sym, ap, ap₂, ◌∙◌}
-use mathlib.Core.List.{[], ◌∷◌}
-use Prim.Native.Nat.{ℕ}
 use native.Mathlib.Omega.{arith}
 use lib.ListN.{length}
 use Rattle.std.specs.Prelude.{Option, Some, None, Result, Ok}
@@ -10,7 +8,7 @@ use Rattle.scalars.specs.Walk.{OneBitsGive}
 use Rattle.scalars.specs.declared.one_bits_iter.OneBit.{OneBit}
 use Rattle.scalars.specs.declared.one_bits_iter.OneBitsIter.{OneBitsIter}
 use Rattle.scalars.specs.Mask.{sift}
-use Rattle.scalars.specs.Paper.{accepted, number, place, values}
+use Rattle.scalars.specs.Paper.{number, place, values}
 use Rattle.rules.specs.Rule.{passes}
 use Rattle.rules.specs.declared.rule.Part.TheVariants.{Number}
 use Rattle.rules.specs.declared.rule.Keep.TheVariants.{Argument}

@@ -1,5 +1,4 @@
 -- `is_same` meets its contract. The loop's invariant: what is left decides. Assumes nothing.
-use mathlib.Core.Path.{refl}
 use native.Mathlib.Omega.{arith}
 use Rattle.names.proofs.SameBytes.{other_length, byte-differs, byte-agrees, none_left}
 use Rattle.names.proofs.index.is_same.Goals as goal
