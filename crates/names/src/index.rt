@@ -96,7 +96,7 @@ pub(crate) fn entry(index: &[u8], i: usize) -> usize
     index.get(i).map_or(0, |b| usize::from(*b))
 }
 
-// Whether two byte strings are the same. By a loop over their places: names have a few bytes each, and `==` of slices is a call for any number.
+// Whether two byte strings are the same. By a loop over their places, so that must-fail/run_matched_by_its_beginning can have it compare fewer.
 pub(crate) fn is_same(a: &[u8], b: &[u8]) -> bool
     ensures { result ≡ same a.now b.now }
 {
